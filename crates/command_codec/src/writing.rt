@@ -1,0 +1,38 @@
+//! Numbers and strings of bytes at the end of what was written: numbers are big-endian.
+
+ghost use Rattle.std.specs.Prelude.{◌≡◌, ◌<◌, ◌^◌, ◌++◌, [], ◌∷◌, length, OnOk};
+ghost use Rattle.command_codec.specs.Fields.{u16_bytes, u64_bytes, string16};
+
+use mrp_types::{Memory, Octets};
+
+/// Adds one byte.
+pub fn put_u8(out: &mut Octets, number: u8) -> Result<(), Memory>
+    ensures { OnOk result (out.new ≡ out.old ++ number ∷ []) }
+{
+    out.push(number)
+}
+
+/// Adds a number of two bytes.
+#[tactic(auto, unfolding(crate::specs::Fields::u16_bytes))]
+pub fn put_u16(out: &mut Octets, number: u16) -> Result<(), Memory>
+    ensures { OnOk result (out.new ≡ out.old ++ u16_bytes number) }
+{
+    out.extend(&number.to_be_bytes())
+}
+
+/// Adds a number of eight bytes.
+#[tactic(auto, unfolding(crate::specs::Fields::u64_bytes))]
+pub fn put_u64(out: &mut Octets, number: u64) -> Result<(), Memory>
+    ensures { OnOk result (out.new ≡ out.old ++ u64_bytes number) }
+{
+    out.extend(&number.to_be_bytes())
+}
+
+/// Adds a length of two bytes, and that many bytes.
+pub fn put_string16(out: &mut Octets, bytes: &[u8]) -> Result<(), Memory>
+    requires { length bytes.now < 2 ^ 16 }
+    ensures { OnOk result (out.new ≡ out.old ++ string16 bytes.now) }
+{
+    put_u16(out, bytes.len() as u16)?;
+    out.extend(bytes)
+}

@@ -1,0 +1,118 @@
+-- What the place of a byte says of lines and words.
+use Rattle.std.proofs.Common.{arith, ◌≡◌, ◌≢◌, ◌<◌, ◌≤◌, ℕ, ◌+◌, ◌-◌, suc, List, [], ◌∷◌, ◌++◌, length, take, drop, get_or, Option, Some, None, refl, sym, ap, ◌∙◌, ◌==◌, if◌then◌else◌, Bool, true, false, add-one, drop-cons, subst}
+use Rattle.std.proofs.lemmas.Grind.{common_steps}
+use Rattle.std.specs.Option.{option_map}
+use Rattle.text_lines.specs.Split.{place_of, words_of, onto_first, first_line, onto_line, lines_of, onto_lines}
+
+-- the line before a line feed at a place, and what follows
+abbrev pub cut_at : List ℕ → ℕ → List ℕ × List ℕ
+cut_at bytes end = (take end bytes, drop (end + 1) bytes)
+
+-- one place further
+abbrev pub further : Option ℕ → Option ℕ
+further place = option_map (λ n. n + 1) place
+
+-- a place in a rest, counted from the front
+abbrev pub onwards : ℕ → Option ℕ → Option ℕ
+onwards n place = option_map (λ k. k + n) place
+
+-- ---- the search
+
+pub at_front : (place : Option ℕ) → place ≡ onwards 0 place
+at_front None = refl
+at_front (Some k) = ap Some (grind arith)
+
+step_on : (n : ℕ) (place : Option ℕ) → onwards n (further place) ≡ onwards (n + 1) place
+step_on n None = refl
+step_on n (Some k) = ap Some (grind arith)
+
+apart : (byte x : ℕ) (rest : List ℕ) → x ≢ byte → place_of byte (x ∷ rest) ≡ further (place_of byte rest)
+apart byte x rest other = grind (arith, common_steps)
+
+here : (byte x : ℕ) (rest : List ℕ) → x ≡ byte → place_of byte (x ∷ rest) ≡ Some 0
+here byte x rest same = grind (arith, common_steps)
+
+pub passed : (byte n : ℕ) (bytes : List ℕ) → n < length bytes → get_or bytes n 0 ≢ byte →
+    place_of byte bytes ≡ onwards n (place_of byte (drop n bytes)) → place_of byte bytes ≡ onwards (n + 1) (place_of byte (drop (n + 1) bytes))
+passed byte n bytes inside other so_far =
+    so_far ∙ ap (λ l. onwards n (place_of byte l)) (drop-cons bytes n 0 inside)
+    ∙ ap (onwards n) (apart byte (get_or bytes n 0) (drop (suc n) bytes) other)
+    ∙ step_on n (place_of byte (drop (suc n) bytes)) ∙ ap (λ k. onwards (n + 1) (place_of byte (drop k bytes))) (sym (add-one n))
+
+pub found : (byte n : ℕ) (bytes : List ℕ) → n < length bytes → get_or bytes n 0 ≡ byte →
+    place_of byte bytes ≡ onwards n (place_of byte (drop n bytes)) → Some n ≡ place_of byte bytes
+found byte n bytes inside same so_far =
+    sym (so_far ∙ ap (λ l. onwards n (place_of byte l)) (drop-cons bytes n 0 inside)
+    ∙ ap (onwards n) (here byte (get_or bytes n 0) (drop (suc n) bytes) same) ∙ ap Some (grind arith))
+
+pub not_found : (byte n : ℕ) (bytes : List ℕ) → length bytes ≤ n →
+    place_of byte bytes ≡ onwards n (place_of byte (drop n bytes)) → None ≡ place_of byte bytes
+not_found byte n bytes all so_far =
+    let empty : drop n bytes ≡ [] = grind (arith, common_steps) in
+    sym (so_far ∙ ap (λ l. onwards n (place_of byte l)) empty)
+
+-- ---- lines and words
+
+line_step : (b : ℕ) (rest : List ℕ) (place : Option ℕ) →
+    onto_line b (option_map (cut_at rest) place) ≡ option_map (cut_at (b ∷ rest)) (further place)
+line_step b rest None = refl
+line_step b rest (Some k) = rw (add-one, add-one) refl
+
+line_test : (b : ℕ) (rest : List ℕ) (t : Bool) → first_line rest ≡ option_map (cut_at rest) (place_of 10 rest) →
+    (if t then Some ([], rest) else onto_line b (first_line rest)) ≡ option_map (cut_at (b ∷ rest)) (if t then Some 0 else further (place_of 10 rest))
+line_test b rest true before = refl
+line_test b rest false before = rw before (line_step b rest (place_of 10 rest))
+
+pub first_line_at : (bytes : List ℕ) → first_line bytes ≡ option_map (cut_at bytes) (place_of 10 bytes)
+first_line_at [] = refl
+first_line_at (b ∷ rest) = line_test b rest (b == 10) (first_line_at rest)
+
+-- the words where the first space stands at a place
+abbrev pub words_at : List ℕ → Option ℕ → List (List ℕ)
+words_at bytes None = bytes ∷ []
+words_at bytes (Some end) = take end bytes ∷ words_of (drop (end + 1) bytes)
+
+word_step : (b : ℕ) (rest : List ℕ) (place : Option ℕ) → onto_first b (words_at rest place) ≡ words_at (b ∷ rest) (further place)
+word_step b rest None = refl
+word_step b rest (Some k) = rw (add-one, add-one) refl
+
+word_test : (b : ℕ) (rest : List ℕ) (t : Bool) → words_of rest ≡ words_at rest (place_of 32 rest) →
+    (if t then [] ∷ words_of rest else onto_first b (words_of rest)) ≡ words_at (b ∷ rest) (if t then Some 0 else further (place_of 32 rest))
+word_test b rest true before = refl
+word_test b rest false before = ap (onto_first b) before ∙ word_step b rest (place_of 32 rest)
+
+pub words_of_at : (bytes : List ℕ) → words_of bytes ≡ words_at bytes (place_of 32 bytes)
+words_of_at [] = refl
+words_of_at (b ∷ rest) = word_test b rest (b == 32) (words_of_at rest)
+
+-- the rest, cut at its own length
+pub all_of_rest : (d : ℕ) (bytes : List ℕ) → take (length bytes - d) (drop d bytes) ≡ drop d bytes
+all_of_rest d bytes = grind (arith, common_steps)
+
+-- the lines where the first line is known
+abbrev pub lines_at : List ℕ → Option (List ℕ × List ℕ) → Option (List (List ℕ))
+lines_at [] None = Some []
+lines_at (b ∷ rest) None = None
+lines_at bytes (Some (line, rest)) = option_map (λ (lines : List (List ℕ)). line ∷ lines) (lines_of rest)
+
+onto_more : (b : ℕ) (line : List ℕ) (lines : Option (List (List ℕ))) →
+    onto_lines b (option_map (λ (ls : List (List ℕ)). line ∷ ls) lines) ≡ option_map (λ (ls : List (List ℕ)). (b ∷ line) ∷ ls) lines
+onto_more b line None = refl
+onto_more b line (Some ls) = refl
+
+lines_step : (b : ℕ) (rest : List ℕ) (first : Option (List ℕ × List ℕ)) →
+    onto_lines b (lines_at rest first) ≡ lines_at (b ∷ rest) (onto_line b first)
+lines_step b [] None = refl
+lines_step b (c ∷ rest) None = refl
+lines_step b [] (Some (line, after)) = onto_more b line (lines_of after)
+lines_step b (c ∷ rest) (Some (line, after)) = onto_more b line (lines_of after)
+
+lines_test : (b : ℕ) (rest : List ℕ) (t : Bool) → lines_of rest ≡ lines_at rest (first_line rest) →
+    (if t then option_map (λ (lines : List (List ℕ)). [] ∷ lines) (lines_of rest) else onto_lines b (lines_of rest))
+    ≡ lines_at (b ∷ rest) (if t then Some ([], rest) else onto_line b (first_line rest))
+lines_test b rest true before = refl
+lines_test b rest false before = ap (onto_lines b) before ∙ lines_step b rest (first_line rest)
+
+pub lines_of_at : (bytes : List ℕ) → lines_of bytes ≡ lines_at bytes (first_line bytes)
+lines_of_at [] = refl
+lines_of_at (b ∷ rest) = lines_test b rest (b == 10) (lines_of_at rest)

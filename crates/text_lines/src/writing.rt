@@ -1,0 +1,31 @@
+//! Words at the end of what was written.
+
+ghost use Rattle.std.specs.Prelude.{◌≡◌, ◌++◌, OnOk};
+ghost use Rattle.std.specs.Fmt.{decimal};
+ghost use Rattle.hex.specs.Hex.{encode_lower};
+ghost use Rattle.text_lines.specs.Text.{spaced};
+
+use mrp_types::{Memory, Octets};
+use std::alloc::Global;
+
+/// Adds a space and a word.
+pub fn put_word(out: &mut Octets, word: &[u8]) -> Result<(), Memory>
+    ensures { OnOk result (out.new ≡ out.old ++ spaced word.now) }
+{
+    out.push(b' ')?;
+    out.extend(word)
+}
+
+/// Adds a space and a number in decimal.
+pub fn put_number(alloc: Global, out: &mut Octets, number: u64) -> Result<(), Memory>
+    ensures { OnOk result (out.new ≡ out.old ++ spaced (decimal number)) }
+{
+    put_word(out, number.to_string(alloc)?.as_bytes())
+}
+
+/// Adds a space and bytes in lower-case hexadecimal.
+pub fn put_hex(alloc: Global, out: &mut Octets, bytes: &[u8]) -> Result<(), Memory>
+    ensures { OnOk result (out.new ≡ out.old ++ spaced (encode_lower bytes.now)) }
+{
+    put_word(out, hex::encode(alloc, bytes)?.as_bytes())
+}
