@@ -4,6 +4,7 @@ ghost use Rattle.std.specs.Prelude.{◌≡◌, ◌↔◌, IfOk, IsTrue};
 ghost use Rattle.mrp_types.specs.Entries.{IsEntry};
 
 use crate::{ClientId, Memory, Octets, Payload};
+use std::alloc::Global;
 
 /// The value of an instance.
 #[derive(Debug, Drop)]
@@ -48,6 +49,18 @@ pub struct Entry {
 }
 
 impl Entry {
+    /// An equal entry.
+    pub fn copy(&self, alloc: Global) -> Result<Self, Memory>
+        ensures { IfOk result (λ entry. entry ≡ self.now) }
+    {
+        let command = Octets::from_slice(alloc, self.command.bytes())?;
+        Ok(Entry {
+            client: self.client,
+            seq: self.seq,
+            command,
+        })
+    }
+
     /// Whether the entry has a spelling in a batch. The command isn't looked into.
     pub fn is_valid(&self) -> bool
         ensures { IsTrue result ↔ IsEntry self.now }

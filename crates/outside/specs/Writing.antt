@@ -1,13 +1,12 @@
 -- Writing all of a list of bytes.
 use Rattle.std.specs.Prelude.{◌≡◌, ℕ, ◌≤◌, List, length, take, Option, Result, OnOk}
 use Rattle.std.specs.Io.KnownBytes.{Appends}
-use Rattle.outside.specs.declared.refused.Refused.{Refused}
 
 -- the first n of the bytes were taken, all of them at Ok
-pub record Takes (old new : Option (List ℕ)) (bytes : List ℕ) (result : Result (Unit {0}) Refused) (n : ℕ) : Type 0 where
+pub record Takes {E : Type 0} (old new : Option (List ℕ)) (bytes : List ℕ) (result : Result (Unit {0}) E) (n : ℕ) : Type 0 where
   pub front : n ≤ length bytes
   pub taken : Appends old new (take n bytes)
   pub all : OnOk result (n ≡ length bytes)
 
-abbrev pub WritesAll : Option (List ℕ) → Option (List ℕ) → List ℕ → Result (Unit {0}) Refused → Type 0
+abbrev pub WritesAll : {E : Type 0} → Option (List ℕ) → Option (List ℕ) → List ℕ → Result (Unit {0}) E → Type 0
 WritesAll old new bytes result = (n : ℕ) × Takes old new bytes result n

@@ -1,3 +1,5 @@
+pub mod Inverse
 pub mod Laws
 pub mod Numbers
 pub mod Places
+pub mod WordsWere

@@ -1,0 +1,150 @@
+-- Numbers and bytes are read as they are spelled, and their spellings have no space and no line feed.
+use Rattle.std.proofs.Common.{arith, lit<, ◌*◌, ◌≡◌, ◌≢◌, ◌<◌, ◌≤◌, ℕ, ◌^◌, ◌+◌, List, [], ◌∷◌, ◌++◌, length, Option, Some, None, refl, sym, ap, ◌∙◌, subst, nat_lt, nat_le, ◌==◌, ◌&&◌, if◌then◌else◌, Bool, true, false, codes, Ok, Err, IsTrue}
+use Rattle.std.proofs.lemmas.Grind.{common_steps}
+use Rattle.std.proofs.lemmas.Slice.Eq.{bytes_eq-Decides}
+use Rattle.std.proofs.lemmas.Fmt.{decimal_is_IsNumeral}
+use Rattle.std.proofs.lemmas.List.Elements.{recursion_from_All}
+use Rattle.std.specs.Prelude.{Result}
+use Rattle.std.specs.List.{flat_map, AllByRecursion, AllPass}
+use Rattle.std.specs.Str.{bytes_eq}
+use Rattle.std.specs.Str.Parse.{digits_value, AllDigits}
+use Rattle.std.specs.Char.{digit_value}
+use Rattle.std.specs.Fmt.{decimal}
+use Rattle.hex.specs.Hex.{encode_lower, encode_with, lower_digits, decode_of, is_hex_digit, IsBytes}
+use Rattle.hex.specs.declared.error.FromHexError.{FromHexError}
+use Rattle.hex.proofs.HexLemmas.{decode_of-encode_lower, decode_of-ok, length-encode_with}
+use Rattle.text_lines.specs.Text.{hex_text}
+use Rattle.text_lines.specs.Reading.{◌>>=◌, number_of, hex_of, decoded}
+use Rattle.text_lines.proofs.Laws.{Lacks}
+
+-- ---- steps of reading
+
+-- a step that gave something had something to go on
+pub bound : {A B : Type 0} (o : Option A) (f : A → Option B) (y : B) → (o >>= f) ≡ Some y → (x : A) × (o ≡ Some x) × (f x ≡ Some y)
+bound (Some x) f y h = (x, refl, h)
+bound None f y h = absurd (none_some y h)
+  where
+    none_some : {B : Type 0} (y : B) → None ≡ Some y → ⊥
+    none_some y h = cc
+
+-- where a test chose a value, it held, or it did not
+pub then_was : {A : Type 0} (t : Bool) (x y : A) → (if t then Some x else None) ≡ Some y → (t ≡ true) × (x ≡ y)
+then_was true x y h = (refl, cc)
+then_was false x y h = absurd (grind arith)
+
+pub else_was : {A : Type 0} (t : Bool) (x y : A) → (if t then None else Some x) ≡ Some y → (t ≡ false) × (x ≡ y)
+else_was true x y h = absurd (grind arith)
+else_was false x y h = (refl, cc)
+
+both : (a b : Bool) → (a && b) ≡ true → (a ≡ true) × (b ≡ true)
+both true b h = (refl, h)
+both false b h = absurd (grind arith)
+
+-- ---- numbers
+
+pub number_of_decimal : (n : ℕ) → n < 2 ^ 64 → number_of (decimal n) ≡ Some n
+number_of_decimal n fits =
+    let value : digits_value 10 (decimal n) ≡ n = (decimal_is_IsNumeral n fits).1 in
+    let small : nat_lt n (2 ^ 64) ≡ true = grind arith in
+    let same : bytes_eq (decimal n) (decimal n) ≡ true = (bytes_eq-Decides (decimal n) (decimal n)).1 refl in
+    rw (value, small, same) refl
+
+pub decimal_of_number : (word : List ℕ) (n : ℕ) → number_of word ≡ Some n → (word ≡ decimal n) × (n < 2 ^ 64)
+decimal_of_number word n h =
+    let v = digits_value 10 word in
+    let was = then_was (nat_lt v (2 ^ 64) && bytes_eq (decimal v) word) v n h in
+    let tests = both (nat_lt v (2 ^ 64)) (bytes_eq (decimal v) word) was.0 in
+    let is : v ≡ n = was.1 in
+    let small : v < 2 ^ 64 = below v (2 ^ 64) tests.0 in
+    (sym ((bytes_eq-Decides (decimal v) word).0 tests.1) ∙ ap decimal is, subst (λ (k : ℕ). k < 2 ^ 64) is small)
+  where
+    below : (a b : ℕ) → nat_lt a b ≡ true → a < b
+    below a b h = grind arith
+
+-- ---- bytes
+
+false_if : (t : Bool) → (t ≡ true → ⊥) → t ≡ false
+false_if true never = absurd (never refl)
+false_if false never = refl
+
+long_is_no_dash : (word : List ℕ) → 2 ≤ length word → bytes_eq word (codes "-") ≡ false
+long_is_no_dash word long = false_if (bytes_eq word (codes "-")) (λ h.
+    let dash : word ≡ codes "-" = (bytes_eq-Decides word (codes "-")).0 h in
+    let one : length word ≡ 1 = ap length dash in
+    omega (arith, one, long))
+
+long_is_some : (word : List ℕ) → 2 ≤ length word → (length word == 0) ≡ false
+long_is_some word long = grind arith
+
+hex_of_code : (word bytes : List ℕ) → 2 ≤ length word → decode_of word ≡ Ok bytes → encode_lower bytes ≡ word → hex_of word ≡ Some bytes
+hex_of_code word bytes long read code =
+    let same : bytes_eq (encode_lower bytes) word ≡ true = (bytes_eq-Decides (encode_lower bytes) word).1 code in
+    rw (long_is_no_dash word long, long_is_some word long, read, same) refl
+
+pub hex_of_text : (bytes : List ℕ) → IsBytes bytes → hex_of (hex_text bytes) ≡ Some bytes
+hex_of_text [] are = refl
+hex_of_text (b ∷ rest) are =
+    let all = b ∷ rest in
+    let long : length (encode_lower all) ≡ 2 * length all = length-encode_with lower_digits all in
+    let some : length all ≡ length rest + 1 = grind (arith, common_steps) in
+    hex_of_code (encode_lower all) all (omega (arith, long, some)) (decode_of-encode_lower all are) refl
+
+some_text : (bytes word : List ℕ) → encode_lower bytes ≡ word → (length word == 0) ≡ false → word ≡ hex_text bytes
+some_text [] word code some =
+    let none : length word ≡ 0 = sym (ap length code) ∙ length-encode_with lower_digits [] in
+    absurd (grind (arith, none, some))
+some_text (b ∷ rest) word code some = sym code
+
+decoded_text : (d : Result (List ℕ) FromHexError) (word bytes : List ℕ) → decode_of word ≡ d → decoded word d ≡ Some bytes →
+    (encode_lower bytes ≡ word) × IsBytes bytes
+decoded_text (Ok v) word bytes read h =
+    let was = then_was (bytes_eq (encode_lower v) word) v bytes h in
+    let code : encode_lower v ≡ word = (bytes_eq-Decides (encode_lower v) word).0 was.0 in
+    let ok = decode_of-ok word v read in
+    (ap encode_lower (sym was.1) ∙ code, subst (λ (x : List ℕ). IsBytes x) was.1 ok.3)
+decoded_text (Err e) word bytes read h = absurd (grind arith)
+
+no_bytes : IsBytes []
+no_bytes i = lit< tt
+
+text_by_tests : (t u : Bool) (d : Result (List ℕ) FromHexError) (word bytes : List ℕ) → bytes_eq word (codes "-") ≡ t → (length word == 0) ≡ u →
+    decode_of word ≡ d → (if t then Some [] else (if u then None else decoded word d)) ≡ Some bytes → (word ≡ hex_text bytes) × IsBytes bytes
+text_by_tests true u d word bytes dash some read h =
+    let empty : [] ≡ bytes = cc in
+    let none : IsBytes bytes = subst (λ (x : List ℕ). IsBytes x) empty no_bytes in
+    ((bytes_eq-Decides word (codes "-")).0 dash ∙ ap hex_text empty, none)
+text_by_tests false true d word bytes dash some read h = absurd (grind arith)
+text_by_tests false false d word bytes dash some read h =
+    let was = decoded_text d word bytes read h in
+    (some_text bytes word was.0 some, was.1)
+
+pub text_of_hex : (word bytes : List ℕ) → hex_of word ≡ Some bytes → (word ≡ hex_text bytes) × IsBytes bytes
+text_of_hex word bytes h = text_by_tests (bytes_eq word (codes "-")) (length word == 0) (decode_of word) word bytes refl refl refl h
+
+-- ---- no space and no line feed
+
+digit_differs : (c byte : ℕ) → digit_value c < 10 → byte < 48 → c ≢ byte
+digit_differs c byte digit low = λ same. grind (arith, common_steps)
+
+lacks_digits : (byte : ℕ) (ds : List ℕ) → byte < 48 → AllDigits 10 ds → Lacks byte ds
+lacks_digits byte [] low all = tt
+lacks_digits byte (d ∷ ds) low all = (digit_differs d byte all.0 low, lacks_digits byte ds low all.1)
+
+pub lacks_decimal : (byte n : ℕ) → byte < 48 → n < 2 ^ 64 → Lacks byte (decimal n)
+lacks_decimal byte n low fits = lacks_digits byte (decimal n) low (decimal_is_IsNumeral n fits).0.1
+
+hex_digit_differs : (c byte : ℕ) → is_hex_digit c ≡ true → byte < 48 → c ≢ byte
+hex_digit_differs c byte digit low = λ same. grind (arith, common_steps)
+
+lacks_hex_digits : (byte : ℕ) (ds : List ℕ) → byte < 48 → AllByRecursion (λ c. is_hex_digit c ≡ true) ds → Lacks byte ds
+lacks_hex_digits byte [] low all = tt
+lacks_hex_digits byte (d ∷ ds) low all = (hex_digit_differs d byte all.0 low, lacks_hex_digits byte ds low all.1)
+
+pub lacks_encoded : (byte : ℕ) (bytes : List ℕ) → byte < 48 → IsBytes bytes → Lacks byte (encode_lower bytes)
+lacks_encoded byte bytes low are =
+    let ok = decode_of-ok (encode_lower bytes) bytes (decode_of-encode_lower bytes are) in
+    lacks_hex_digits byte (encode_lower bytes) low (recursion_from_All (λ c. is_hex_digit c ≡ true) (encode_lower bytes) ok.1)
+
+pub lacks_hex : (byte : ℕ) (bytes : List ℕ) → byte < 45 → IsBytes bytes → Lacks byte (hex_text bytes)
+lacks_hex byte [] low are = (λ same. omega (arith, same, low), tt)
+lacks_hex byte (b ∷ rest) low are = lacks_encoded byte (b ∷ rest) (omega (arith, low)) are
