@@ -1,0 +1,4 @@
+pub mod Deliveries
+pub mod Events
+pub mod Runs
+pub mod Endings

@@ -1,0 +1,6 @@
+pub mod Ring
+pub mod Learner
+pub mod System
+pub mod Rows
+pub mod Answers
+pub mod Top
