@@ -2,7 +2,12 @@
 use Rattle.std.specs.Prelude.{ℕ, ◌≡◌, ◌≤◌, ◌+◌, ◌⊎◌, List, [], ◌∷◌, length, codes, take, Option}
 use Rattle.std.specs.Io.KnownBytes.{Appends, Consumes, IsAtEnd, Keeps}
 use Rattle.outside.specs.Counts.{rise}
+use Rattle.mrp_types.specs.declared.id.NodeId.{NodeId}
+use Rattle.transcript.specs.declared.line.Line.{Line}
 use Rattle.transcript.specs.Spelling.{lines_text}
+use Rattle.plain_model.specs.Lines.{deliveries, counted}
+use Rattle.plain_model.specs.Faithful.{IsFaithful}
+use Rattle.mrpaxos.specs.Order.{one_ring}
 use Rattle.schedule.specs.declared.event.ScheduleEvent.{ScheduleEvent}
 use Rattle.schedule.specs.Spelling.{IsSchedule}
 use Rattle.mrpaxos.specs.System.{trace}
@@ -46,15 +51,23 @@ pub record Output : Type 0 where
 abbrev pub IsUntouched : Output → Type 0
 IsUntouched out = Keeps out.before out.after × (out.faults_after ≡ out.faults_before)
 
+-- Lines that keep the rules: each learn line agrees with the book of the lines before it, each deliver line is of a batch
+-- that the book has, and each node delivers the instances 0, 1, 2 and so on without a gap or a repeat.
+pub record KeepsRules (lines : List Line) : Type 0 where
+  pub faithful : IsFaithful one_ring lines
+  pub in_turn : (node : NodeId) → deliveries node lines ≡ counted 0 (length (deliveries node lines))
+
 -- the bytes are the schedule of these events, and the sink took the text of its lines and nothing else
 pub record Replayed (bytes : List ℕ) (out : Output) (events : List ScheduleEvent) : Type 0 where
   pub schedule : IsSchedule bytes events
+  pub rules : KeepsRules (trace events)
   pub text : Appends out.before out.after (lines_text (trace events))
   pub faults : out.faults_after ≡ out.faults_before
 
 -- the bytes are the schedule of these events, and the sink took a front of the text of its lines
 pub record Stopped (bytes : List ℕ) (out : Output) (events : List ScheduleEvent) (n : ℕ) : Type 0 where
   pub schedule : IsSchedule bytes events
+  pub rules : KeepsRules (trace events)
   pub front : Appends out.before out.after (take n (lines_text (trace events)))
 
 -- What a status says where the bytes are all of the input. Of want of memory nothing is said but what was written:

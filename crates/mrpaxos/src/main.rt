@@ -4,6 +4,7 @@
 #![tactic(auto)]
 
 mod frame;
+mod laws;
 mod learner;
 mod replay;
 mod request;
@@ -12,6 +13,7 @@ mod top;
 mod world;
 
 pub use frame::{Body, Frame, Frames};
+pub use laws::{deliveries_are_in_turn, lines_are_faithful};
 pub use learner::{Learned, RING};
 use outside::{ReadSource, WriteSink};
 pub use replay::ReplayFault;
