@@ -1,13 +1,55 @@
-// A library with one function.
+//! One ring of acceptors, as a machine of lists and functions: whatever is lost, repeated, reordered or stopped in the
+//! middle, one value is chosen at each instance.
+//!
+//! Definitions and laws alone: each function has an empty body, and its contract is the law. `V` is the type of the
+//! values. A world is what any list of events that may happen leaves of the empty world, with n acceptors.
 #![tactic(auto)]
 
-ghost use Rattle.std.specs.Prelude.{◌≡◌};
-ghost use Rattle.ring_safety.specs.Echo.{echo_of};
+ghost use Rattle.std.specs.Prelude.{◌≡◌, ℕ, List};
+ghost use Rattle.ring_safety.specs.Example.{first_world, second_world, seven, with_state_after, with_state_before};
+ghost use Rattle.ring_safety.specs.Faces.{Proposal};
+ghost use Rattle.ring_safety.specs.Rules.{PromiseRule, VoteRule, ProposeRule, ChooseRule, StaysRule};
+ghost use Rattle.ring_safety.specs.Worlds.{Event, CanRun, Chosen, durables, empty, run};
 
-// The `ensures` clause is the contract: what `echo` returns is `echo_of` of its argument, a definition
-// in `specs/Echo.antt`, which a caller's clause can cite too.
-pub fn echo(x: usize) -> usize
-    ensures { result ≡ echo_of x }
-{
-    x
-}
+/// Each face keeps the promises made in it, and both faces of a node keep those that it sent.
+pub fn promise<V>()
+    ensures { (n : ℕ) (events : List (Event V)) → CanRun n empty events → PromiseRule (run events empty) }
+{}
+
+/// Held votes were cast, cast votes were proposed, and both faces of a node keep the votes that it cast.
+pub fn vote<V>()
+    ensures { (n : ℕ) (events : List (Event V)) → CanRun n empty events → VoteRule n (run events empty) }
+{}
+
+/// One value is proposed in a ballot and instance, and a majority's promises stand behind it.
+pub fn propose<V>()
+    ensures { (n : ℕ) (events : List (Event V)) → CanRun n empty events → ProposeRule n (run events empty) }
+{}
+
+/// Where a value is chosen, each proposal there of that ballot or a higher one is for that value.
+pub fn choose<V>()
+    ensures { (n : ℕ) (events : List (Event V)) → CanRun n empty events → ChooseRule n (run events empty) }
+{}
+
+/// Two values that are chosen at one instance are equal, also where the second is chosen after any further events.
+pub fn one_value<V>()
+    ensures together { (n : ℕ) (events : List (Event V)) → CanRun n empty events
+        → (c d : Proposal V) → Chosen n (durables (run events empty)) c → Chosen n (durables (run events empty)) d → c.instance ≡ d.instance → c.value ≡ d.value }
+    ensures later { (n : ℕ) (early late : List (Event V)) → CanRun n empty early → CanRun n (run early empty) late
+        → (c d : Proposal V) → Chosen n (durables (run early empty)) c → Chosen n (durables (run late (run early empty))) d → c.instance ≡ d.instance → c.value ≡ d.value }
+{}
+
+/// What durable faces said, their promises and their trims only grow, and what is chosen stays chosen.
+pub fn stays<V>()
+    ensures { (n : ℕ) (early late : List (Event V)) → CanRun n empty early → CanRun n (run early empty) late
+        → StaysRule n (run early empty) (run late (run early empty)) }
+{}
+
+/// The laws are not about nothing: a run of three acceptors in which a value is chosen after a crash with the state
+/// before, and then, with another leader that adopts it, after a crash with the state after.
+pub fn a_value_is_chosen()
+    ensures first { CanRun 3 empty with_state_before }
+    ensures chosen_first { Chosen 3 (durables first_world) (seven 1) }
+    ensures second { CanRun 3 first_world with_state_after }
+    ensures chosen_second { Chosen 3 (durables second_world) (seven 5) }
+{}

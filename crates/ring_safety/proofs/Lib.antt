@@ -1,0 +1,6 @@
+pub mod Votes
+pub mod Local
+pub mod Deeds
+pub mod Choosing
+pub mod Worlds
+pub mod Example
