@@ -1,13 +1,46 @@
-// A library with one function.
+//! Checkpoints, trims and recovery of partitions, as a machine of lists and functions: whatever is lost, repeated,
+//! reordered or stopped in the middle, a recovery starts at or past all that was trimmed when it began.
+//!
+//! Definitions and laws alone: each function has an empty body, and its contract is the law. `K` is the type of the
+//! tuples, of which a setting says what the laws ask. A world is what any list of events that may happen leaves of the
+//! empty world.
 #![tactic(auto)]
 
-ghost use Rattle.std.specs.Prelude.{◌≡◌};
-ghost use Rattle.checkpoint_safety.specs.Echo.{echo_of};
+ghost use Rattle.std.specs.Prelude.{List, ◌∷◌, ℕ};
+ghost use Rattle.quorums.specs.Groups.{Has};
+ghost use Rattle.checkpoint_safety.specs.Deeds.{Deed, Begins};
+ghost use Rattle.checkpoint_safety.specs.Rules.{SaveRule, TrimRule, ReachesTrims, RestoreRule, ChoiceRule};
+ghost use Rattle.checkpoint_safety.specs.Tuples.{Setting};
+ghost use Rattle.checkpoint_safety.specs.Worlds.{Event, Step, CanRun, empty, run};
 
-// The `ensures` clause is the contract: what `echo` returns is `echo_of` of its argument, a definition
-// in `specs/Echo.antt`, which a caller's clause can cite too.
-pub fn echo(x: usize) -> usize
-    ensures { result ≡ echo_of x }
+/// What a node told, or gave as an answer, is reached by the newest checkpoint of each of its faces, for ever.
+pub fn told_is_reached<K>()
+    ensures { (s : Setting K) (early late : List (Event K)) → CanRun s (empty s) early → CanRun s (run early (empty s)) late
+        → SaveRule s (run early (empty s)) (run late (run early (empty s))) }
 {
-    x
+}
+
+/// A trim above 0 is reached, for ever, in each partition that subscribes to its ring, by a trim quorum of replicas in
+/// each of their faces.
+pub fn trim_is_reached<K>()
+    ensures { (s : Setting K) (early late : List (Event K)) → CanRun s (empty s) early → CanRun s (run early (empty s)) late
+        → TrimRule s (run early (empty s)) (run late (run early (empty s))) }
+{
+}
+
+/// What is chosen in an attempt to recover reaches every trim that was made before the attempt began: before the step that
+/// began it, and, as is the same said of any world, while no durable face had begun it.
+pub fn recovery_reaches_every_trim<K>()
+    ensures begun { (s : Setting K) (early late : List (Event K)) (a number : ℕ) (deeds : List (Deed K)) → CanRun s (empty s) early
+        → CanRun s (run early (empty s)) (Step a deeds ∷ late) → Has deeds (Begins number)
+        → ReachesTrims s (run early (empty s)) (run (Step a deeds ∷ late) (run early (empty s))) a number }
+    ensures not_begun { (s : Setting K) (early late : List (Event K)) → CanRun s (empty s) early → CanRun s (run early (empty s)) late
+        → RestoreRule s (run early (empty s)) (run late (run early (empty s))) }
+{
+}
+
+/// Of the answers that replicas of one partition gave to an attempt, one is at or after all of them.
+pub fn a_choice_stands<K>()
+    ensures { (s : Setting K) (events : List (Event K)) → CanRun s (empty s) events → ChoiceRule s (run events (empty s)) }
+{
 }

@@ -1,0 +1,4 @@
+pub mod Local
+pub mod Deeds
+pub mod Worlds
+pub mod Rules
