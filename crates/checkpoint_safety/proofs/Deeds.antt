@@ -1,10 +1,10 @@
 -- Each deed that may be done keeps the invariant of the face.
-use Rattle.std.proofs.Common.{◌≡◌, ◌⊎◌, inl, inr, ℕ, ◌<◌, ◌≤◌, Bool, true, List, [], ◌∷◌, refl, sym, subst, arith}
+use Rattle.std.proofs.Common.{inl, inr, ℕ, List, [], ◌∷◌, sym, subst}
 use Rattle.quorums.specs.Groups.{Has}
-use Rattle.checkpoint_safety.specs.Tuples.{Setting, IsAtOrAfter}
-use Rattle.checkpoint_safety.specs.Faces.{Trim, Attempt, Answer, Choice, Face, HasBegun}
-use Rattle.checkpoint_safety.specs.Deeds.{Deed, Saves, Tells, Makes, Begins, Answers, Chooses, done, all_done, May, MayAll, MaySave, MayTrim, MayChoose}
-use Rattle.checkpoint_safety.proofs.Local.{Local, Grows, Grows-refl, Grows-trans, HasBegun-more, MayTrim-more, MayChoose-more}
+use Rattle.checkpoint_safety.specs.Tuples.{Setting}
+use Rattle.checkpoint_safety.specs.Faces.{Attempt, Choice, Face, HasBegun}
+use Rattle.checkpoint_safety.specs.Deeds.{Deed, Saves, Tells, Makes, Begins, Answers, Chooses, done, all_done, May, MayAll, MayChoose}
+use Rattle.checkpoint_safety.proofs.Local.{Local, Grows, Grows-refl, Grows-trans, HasBegun-more, MayChoose-more}
 
 -- what holds of the new element and of each old one holds of each
 each : {X : Type 0} {P : X → Type 0} {x : X} (xs : List X) → P x → ((y : X) → Has xs y → P y) → (y : X) → Has (x ∷ xs) y → P y
@@ -15,23 +15,58 @@ module _ {K : Type 0} (s : Setting K) (faces : ℕ → Face K) (a : ℕ) (f : Fa
   -- a later checkpoint, and all that was said before
   pub done_more : (d : Deed K) → May s faces a f d → Grows s f (done d f)
   done_more (Saves tuple) may = record {
-    newest = may.later; told = λ k h. h; trims = λ t h. h; begun = λ n h. h; answers = λ x h. h; choices = λ c h. h; fresh = λ x h. inl h;
+    newest = may.later;
+    told = λ k h. h;
+    trims = λ t h. h;
+    begun = λ n h. h;
+    answers = λ x h. h;
+    choices = λ c h. h;
+    fresh = λ x h. inl h;
   }
   done_more Tells may = record {
-    newest = s.tuples.same f.newest; told = λ k h. inr h; trims = λ t h. h; begun = λ n h. h; answers = λ x h. h; choices = λ c h. h; fresh = λ x h. inl h;
+    newest = s.tuples.same f.newest;
+    told = λ k h. inr h;
+    trims = λ t h. h;
+    begun = λ n h. h;
+    answers = λ x h. h;
+    choices = λ c h. h;
+    fresh = λ x h. inl h;
   }
   done_more (Makes trim) may = record {
-    newest = s.tuples.same f.newest; told = λ k h. h; trims = λ t h. inr h; begun = λ n h. h; answers = λ x h. h; choices = λ c h. h; fresh = λ x h. inl h;
+    newest = s.tuples.same f.newest;
+    told = λ k h. h;
+    trims = λ t h. inr h;
+    begun = λ n h. h;
+    answers = λ x h. h;
+    choices = λ c h. h;
+    fresh = λ x h. inl h;
   }
   done_more (Begins number) may = record {
-    newest = s.tuples.same f.newest; told = λ k h. h; trims = λ t h. h; begun = λ n h. inr h; answers = λ x h. h; choices = λ c h. h; fresh = λ x h. inl h;
+    newest = s.tuples.same f.newest;
+    told = λ k h. h;
+    trims = λ t h. h;
+    begun = λ n h. inr h;
+    answers = λ x h. h;
+    choices = λ c h. h;
+    fresh = λ x h. inl h;
   }
   done_more (Answers attempt) may = record {
-    newest = s.tuples.same f.newest; told = λ k h. h; trims = λ t h. h; begun = λ n h. h; answers = λ x h. inr h; choices = λ c h. h;
+    newest = s.tuples.same f.newest;
+    told = λ k h. h;
+    trims = λ t h. h;
+    begun = λ n h. h;
+    answers = λ x h. inr h;
+    choices = λ c h. h;
     fresh = each f.answers (inr (s.tuples.same f.newest)) (λ x h. inl h);
   }
   done_more (Chooses choice) may = record {
-    newest = s.tuples.same f.newest; told = λ k h. h; trims = λ t h. h; begun = λ n h. h; answers = λ x h. h; choices = λ c h. inr h; fresh = λ x h. inl h;
+    newest = s.tuples.same f.newest;
+    told = λ k h. h;
+    trims = λ t h. h;
+    begun = λ n h. h;
+    answers = λ x h. h;
+    choices = λ c h. inr h;
+    fresh = λ x h. inl h;
   }
 
 module _ {K : Type 0} (s : Setting K) (faces : ℕ → Face K) (a : ℕ) (f : Face K) (k : Local s faces a f) where

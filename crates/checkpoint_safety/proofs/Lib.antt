@@ -2,3 +2,4 @@ pub mod Local
 pub mod Deeds
 pub mod Worlds
 pub mod Rules
+pub mod Example

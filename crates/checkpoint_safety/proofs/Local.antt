@@ -1,7 +1,7 @@
 -- The invariant of one face of one node, in a world whose durable faces are given. It speaks of no other face but for what
 -- durable faces say, so a crash, which drops a face or promotes one, costs it nothing.
-use Rattle.std.proofs.Common.{◌≡◌, ◌⊎◌, inl, inr, ℕ, ◌<◌, ◌≤◌, Bool, true, List, [], ◌∷◌, refl, sym, subst, arith}
-use Rattle.quorums.specs.Groups.{Has, count}
+use Rattle.std.proofs.Common.{◌≡◌, ◌⊎◌, inl, inr, ℕ, ◌<◌, true, subst}
+use Rattle.quorums.specs.Groups.{Has}
 use Rattle.checkpoint_safety.specs.Tuples.{Setting, IsAtOrAfter}
 use Rattle.checkpoint_safety.specs.Faces.{Trim, Attempt, Answer, Choice, Face, HasBegun, HasAnswered, blank}
 use Rattle.checkpoint_safety.specs.Deeds.{HaveTold, MayTrim, MayChoose}

@@ -1,14 +1,13 @@
 -- The rules, of worlds that keep the invariant.
-use Rattle.std.proofs.Common.{◌≡◌, ◌⊎◌, inl, inr, ℕ, zero, suc, ◌+◌, ◌<◌, ◌≤◌, Bool, true, false, cond, List, [], ◌∷◌, refl, sym, ◌∙◌, ap, subst, arith, le_trans}
+use Rattle.std.proofs.Common.{◌≡◌, ◌⊎◌, inl, inr, ℕ, zero, suc, ◌+◌, ◌<◌, ◌≤◌, Bool, true, false, cond, List, refl, sym, subst, arith, le_trans}
 use Rattle.quorums.specs.Groups.{Has, count, Shared}
 use Rattle.quorums.proofs.Meeting.{quorums_meet}
 use Rattle.checkpoint_safety.specs.Tuples.{Setting, IsAtOrAfter}
-use Rattle.checkpoint_safety.specs.Faces.{Trim, Attempt, Answer, Choice, Face, HasBegun, HasAnswered}
-use Rattle.checkpoint_safety.specs.Deeds.{Deed, HaveTold, MayTrim, MayChoose}
+use Rattle.checkpoint_safety.specs.Faces.{Answer, Face, HasBegun, HasAnswered}
+use Rattle.checkpoint_safety.specs.Deeds.{HaveTold, MayChoose}
 use Rattle.checkpoint_safety.specs.Worlds.{World, Event, durables, run, CanRun, IsFaceOf}
-use Rattle.checkpoint_safety.specs.Rules.{SaveRule, IsReached, IsStable, TrimRule, ReachesTrims, IsGreatest, ChoiceRule}
-use Rattle.checkpoint_safety.proofs.Local.{Local, Grows}
-use Rattle.checkpoint_safety.proofs.Worlds.{Sound, Sound-run, either_face, later_face, later_more}
+use Rattle.checkpoint_safety.specs.Rules.{SaveRule, IsReached, TrimRule, ReachesTrims, IsGreatest, ChoiceRule}
+use Rattle.checkpoint_safety.proofs.Worlds.{Sound, either_face, later_face, later_more}
 
 module _ {K : Type 0} (s : Setting K) (w : World K) (sound : Sound s w) (events : List (Event K)) (can : CanRun s w events) where
   pub save_holds : SaveRule s w (run events w)
@@ -43,9 +42,11 @@ module _ {K : Type 0} (s : Setting K) (w : World K) (sound : Sound s w) (events 
     where
       x : Answer K
       x = record { attempt = record { node = a; number = number }; tuple = k }
+
       begun_before : HasBegun (durables w) r (w r).durable x.attempt → ⊥
       begun_before (inl b) = new b
       begun_before (inr b) = new (subst (λ i. Has (w i).durable.begun number) (sym b.0) b.1)
+
       go : Has (w r).durable.answers x ⊎ IsAtOrAfter s k (w r).durable.newest → IsAtOrAfter s k (w r).durable.newest
       go (inl old) = absurd (begun_before ((sound.durable r).begun x old))
       go (inr since) = since
@@ -61,6 +62,7 @@ module _ {K : Type 0} (s : Setting K) (w : World K) (sound : Sound s w) (events 
     where
       up_or_zero : (t : ℕ) → (t ≡ 0) ⊎ (0 < t)
       up_or_zero t = grind arith
+
       go : (trim.to ≡ 0) ⊎ (0 < trim.to) → trim.to ≤ s.tuples.entry choice.tuple trim.ring
       go (inl e) = omega arith
       go (inr up) =
@@ -68,8 +70,8 @@ module _ {K : Type 0} (s : Setting K) (w : World K) (sound : Sound s w) (events 
           let t : HaveTold s (durables w) (s.plan.home a) trim = ((either_face s w sound b g iz).trimmed trim made up).told (s.plan.home a) sub in
           let c : MayChoose s (durables (run events w)) a f choice = (later_face s w sound events can a f is).chosen choice h in
           let m : Shared (s.plan.size (s.plan.home a)) t.members c.members =
-              quorums_meet (s.plan.size (s.plan.home a)) (s.plan.trim_quorum (s.plan.home a)) (s.plan.recovery_quorum (s.plan.home a)) t.members c.members
-                  (s.plan.meet (s.plan.home a)) t.enough c.enough in
+          quorums_meet (s.plan.size (s.plan.home a)) (s.plan.trim_quorum (s.plan.home a)) (s.plan.recovery_quorum (s.plan.home a)) t.members c.members
+          (s.plan.meet (s.plan.home a)) t.enough c.enough in
           let r : ℕ = s.plan.replica (s.plan.home a) m.member in
           let new_choice : Has (w a).durable.begun choice.number → ⊥ = λ x. new (subst (λ n. Has (w a).durable.begun n) same x) in
           let since : IsAtOrAfter s (c.tuple m.member) (w r).durable.newest = known_since a choice.number new_choice f is r (c.tuple m.member) (c.answered m.member m.below m.in_second) in
@@ -77,7 +79,7 @@ module _ {K : Type 0} (s : Setting K) (w : World K) (sound : Sound s w) (events 
           let later : IsAtOrAfter s choice.tuple (c.tuple m.member) = c.later m.member m.below m.in_second in
           let reach : trim.to ≤ s.tuples.entry (t.tuple m.member) trim.ring = t.reach m.member m.below m.in_first in
           let all : IsAtOrAfter s choice.tuple (t.tuple m.member) =
-              s.tuples.chain choice.tuple (c.tuple m.member) (t.tuple m.member) later (s.tuples.chain (c.tuple m.member) (w r).durable.newest (t.tuple m.member) since told) in
+          s.tuples.chain choice.tuple (c.tuple m.member) (t.tuple m.member) later (s.tuples.chain (c.tuple m.member) (w r).durable.newest (t.tuple m.member) since told) in
           le_trans reach (s.tuples.follows choice.tuple (t.tuple m.member) all trim.ring)
 
 eq_or_below : (i n : ℕ) → i < suc n → (i ≡ n) ⊎ (i < n)
@@ -158,4 +160,4 @@ choice_holds s w sound p members tuple attempt answered some = greatest_of s p m
     belong : (i : ℕ) → i < s.plan.size p → members i ≡ true → s.tuples.belongs p (tuple i) ≡ true
     belong i lt m =
         subst (λ q. s.tuples.belongs q (tuple i) ≡ true) (s.plan.at_home p i lt)
-            ((sound.durable (s.plan.replica p i)).answer_belongs (record { attempt = attempt; tuple = tuple i }) (answered i lt m))
+        ((sound.durable (s.plan.replica p i)).answer_belongs (record { attempt = attempt; tuple = tuple i }) (answered i lt m))

@@ -1,9 +1,8 @@
 -- Every reachable world keeps the invariant in both faces of each node.
 use Rattle.std.proofs.Common.{◌≡◌, ◌⊎◌, inl, inr, ℕ, Bool, true, false, cond, nat_eq, List, [], ◌∷◌, refl, sym, ap, subst, arith}
 use Rattle.std.proofs.lemmas.Bool.Decides.{nat_tests}
-use Rattle.quorums.specs.Groups.{Has}
 use Rattle.checkpoint_safety.specs.Tuples.{Setting}
-use Rattle.checkpoint_safety.specs.Faces.{Face, blank}
+use Rattle.checkpoint_safety.specs.Faces.{Face}
 use Rattle.checkpoint_safety.specs.Deeds.{Deed, all_done, MayAll}
 use Rattle.checkpoint_safety.specs.Worlds.{Node, World, Event, Step, Stopped, Before, After, empty, durables, with_node, happens, CanHappen, run, CanRun, IsFaceOf}
 use Rattle.checkpoint_safety.proofs.Local.{Local, Grows, Grows-refl, Grows-of_eq, Grows-trans, Local-elsewhere, Local-blank}
@@ -45,6 +44,7 @@ module _ {K : Type 0} (s : Setting K) (w : World K) (sound : Sound s w) (a : ℕ
           (carried k x.durable (subst (λ i. Local s (durables w) i x.durable) (sym e.0) d) x e.1 (Grows-refl s x.durable))
       durable k (inr e) = subst (λ y. Local s (durables (with_node w a x)) k y.durable) (sym e)
           (carried k (w k).durable (sound.durable k) (w k) e (Grows-refl s (w k).durable))
+
       pending : (k : ℕ) → ((k ≡ a) × (with_node w a x k ≡ x)) ⊎ (with_node w a x k ≡ w k) → Local s (durables (with_node w a x)) k (with_node w a x k).pending
       pending k (inl e) = subst (λ y. Local s (durables (with_node w a x)) k y.pending) (sym e.1)
           (carried k x.pending (subst (λ i. Local s (durables w) i x.pending) (sym e.0) p) x e.1 within)

@@ -2,7 +2,7 @@
 use Rattle.std.specs.Prelude.{◌≡◌, ℕ, ◌<◌, ◌≤◌, Bool, true, List, [], ◌∷◌}
 use Rattle.quorums.specs.Groups.{Has, count}
 use Rattle.checkpoint_safety.specs.Tuples.{Setting, IsAtOrAfter}
-use Rattle.checkpoint_safety.specs.Faces.{Trim, Attempt, Answer, Choice, Face, HasBegun, HasAnswered}
+use Rattle.checkpoint_safety.specs.Faces.{Trim, Attempt, Choice, Face, HasBegun, HasAnswered}
 
 pub data Deed (K : Type 0) : Type 0 where
   -- to save a checkpoint

@@ -9,24 +9,23 @@
 ghost use Rattle.std.specs.Prelude.{List, ◌∷◌, ℕ};
 ghost use Rattle.quorums.specs.Groups.{Has};
 ghost use Rattle.checkpoint_safety.specs.Deeds.{Deed, Begins};
+ghost use Rattle.checkpoint_safety.specs.Example.{recovered_world, setting, trimmed_world, until_recovered, until_trimmed};
 ghost use Rattle.checkpoint_safety.specs.Rules.{SaveRule, TrimRule, ReachesTrims, RestoreRule, ChoiceRule};
 ghost use Rattle.checkpoint_safety.specs.Tuples.{Setting};
-ghost use Rattle.checkpoint_safety.specs.Worlds.{Event, Step, CanRun, empty, run};
+ghost use Rattle.checkpoint_safety.specs.Worlds.{Event, Step, CanRun, durables, empty, run};
 
 /// What a node told, or gave as an answer, is reached by the newest checkpoint of each of its faces, for ever.
 pub fn told_is_reached<K>()
     ensures { (s : Setting K) (early late : List (Event K)) → CanRun s (empty s) early → CanRun s (run early (empty s)) late
         → SaveRule s (run early (empty s)) (run late (run early (empty s))) }
-{
-}
+{}
 
 /// A trim above 0 is reached, for ever, in each partition that subscribes to its ring, by a trim quorum of replicas in
 /// each of their faces.
 pub fn trim_is_reached<K>()
     ensures { (s : Setting K) (early late : List (Event K)) → CanRun s (empty s) early → CanRun s (run early (empty s)) late
         → TrimRule s (run early (empty s)) (run late (run early (empty s))) }
-{
-}
+{}
 
 /// What is chosen in an attempt to recover reaches every trim that was made before the attempt began: before the step that
 /// began it, and, as is the same said of any world, while no durable face had begun it.
@@ -36,11 +35,18 @@ pub fn recovery_reaches_every_trim<K>()
         → ReachesTrims s (run early (empty s)) (run (Step a deeds ∷ late) (run early (empty s))) a number }
     ensures not_begun { (s : Setting K) (early late : List (Event K)) → CanRun s (empty s) early → CanRun s (run early (empty s)) late
         → RestoreRule s (run early (empty s)) (run late (run early (empty s))) }
-{
-}
+{}
 
 /// Of the answers that replicas of one partition gave to an attempt, one is at or after all of them.
 pub fn a_choice_stands<K>()
     ensures { (s : Setting K) (events : List (Event K)) → CanRun s (empty s) events → ChoiceRule s (run events (empty s)) }
-{
-}
+{}
+
+/// The laws are not about nothing: a run of three replicas in which a trim is made, and a replica that has saved nothing
+/// recovers from the tuple that reaches it.
+pub fn a_replica_recovers()
+    ensures first { CanRun setting (empty setting) until_trimmed }
+    ensures trimmed { Has (durables trimmed_world 2).trims (record { ring = 0; to = 5 }) }
+    ensures second { CanRun setting trimmed_world until_recovered }
+    ensures recovered { Has (durables recovered_world 2).choices (record { number = 1; tuple = 5 }) }
+{}

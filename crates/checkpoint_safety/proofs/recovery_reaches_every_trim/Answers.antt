@@ -10,7 +10,7 @@ pub returns-clause-begun : goal.returns-clause-begun
 returns-clause-begun g c = λ s early late a number deeds can could begins.
     let w = run early (empty s) in
     restore_holds s w (Sound-reached s early can) (Step a deeds ∷ late) could a number
-        (begins_new s (durables w) a number (w a).durable deeds could.0 begins)
+    (begins_new s (durables w) a number (w a).durable deeds could.0 begins)
 
 pub returns-clause-not_begun : goal.returns-clause-not_begun
 returns-clause-not_begun g c = λ s early late can could a number. restore_holds s (run early (empty s)) (Sound-reached s early can) late could a number
