@@ -3,7 +3,7 @@ use Rattle.std.proofs.Common.{◌≡◌, inl, inr, ℕ, zero, suc, ◌<◌, ◌�
 use Rattle.quorums.specs.Groups.{Has}
 use Rattle.ring_safety.specs.Faces.{Promise, voted, page, rank}
 use Rattle.ring_safety.specs.Deeds.{IsPromised, Serves, Backing}
-use Rattle.ring_safety.specs.Worlds.{Step, Stopped, After, World, empty, durables, run, CanRun, Chosen}
+use Rattle.ring_safety.specs.Worlds.{Step, Before, Stopped, After, World, empty, durables, run, CanRun, Chosen}
 use Rattle.ring_safety.specs.Deeds.{Promises, Starts}
 use Rattle.ring_safety.specs.Example.{with_state_before, with_state_after, first_world, second_world, seven}
 
@@ -39,7 +39,7 @@ promises_five k = cond (nat_eq k 0)
     (record { ballot = 5; low = 0; high = 10; trim = 0; told = page (λ i. None) 0 10 })
 
 abbrev world_of_one : World ℕ
-world_of_one = run (Step 1 (Starts 1 10 ∷ []) ∷ Step 0 (Promises 1 0 1 ∷ Promises 1 1 10 ∷ []) ∷ []) empty
+world_of_one = run (Stopped 1 (Starts 1 10 ∷ []) ∷ Before 1 ∷ Step 1 (Starts 1 10 ∷ []) ∷ Step 0 (Promises 1 0 1 ∷ Promises 1 1 10 ∷ []) ∷ []) empty
 
 backing_one : Backing 3 (durables world_of_one) 1 (world_of_one 1).durable (seven 1)
 backing_one = record {
@@ -59,12 +59,18 @@ pub can_first : CanRun 3 empty with_state_before
 can_first = (
   (record { owned = refl; above = omega arith }, tt),
   (
-    (omega arith, (omega arith, tt)),
+    tt,
     (
-      (record { next = 0; leads = refl; promised = refl; unproposed = omega arith; untrimmed = omega arith; backing = backing_one }, tt),
+      (record { owned = refl; above = omega arith }, tt),
       (
-        (record { proposed = inl (inl refl); promised = omega arith; untrimmed = omega arith }, tt),
-        (tt, ((record { proposed = inl (inl refl); promised = omega arith; untrimmed = omega arith }, tt), tt)),
+        (omega arith, (omega arith, tt)),
+        (
+          (record { next = 0; leads = refl; promised = refl; unproposed = omega arith; untrimmed = omega arith; backing = backing_one }, tt),
+          (
+            (record { proposed = inl (inl refl); promised = omega arith; untrimmed = omega arith }, tt),
+            (tt, ((record { proposed = inl (inl refl); promised = omega arith; untrimmed = omega arith }, tt), tt)),
+          ),
+        ),
       ),
     ),
   ),

@@ -3,4 +3,5 @@ pub mod Local
 pub mod Deeds
 pub mod Choosing
 pub mod Worlds
+pub mod Rules
 pub mod Example

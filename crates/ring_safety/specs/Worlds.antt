@@ -1,6 +1,6 @@
 -- Worlds of acceptors with crashes. A node has two faces: the durable one, from which others may have heard, and the
 -- pending one, which stands for a step that a device failure stopped. A disk shows one of the two at the next restart.
-use Rattle.std.specs.Prelude.{◌≡◌, ◌⊎◌, ℕ, Bool, true, cond, nat_eq, List, [], ◌∷◌, None, ◌<◌}
+use Rattle.std.specs.Prelude.{◌≡◌, ◌⊎◌, ℕ, Bool, true, cond, nat_eq, List, [], ◌∷◌, ◌<◌}
 use Rattle.quorums.specs.Groups.{Has, IsMajority}
 use Rattle.ring_safety.specs.Faces.{Proposal, Face, blank}
 use Rattle.ring_safety.specs.Deeds.{Deed, all_done, MayAll}
@@ -35,15 +35,13 @@ pub data Event (V : Type 0) : Type 0 where
   -- a restart on an image that stands for the state after
   After : (node : ℕ) → Event V
 
--- a node that starts anew leads nothing
-abbrev pub restarted : {V : Type 0} → Face V → Node V
-restarted f = record { durable = record f { leads = None }; pending = record f { leads = None } }
-
+-- What a restart keeps is what the disk stands for. A real node then leads nothing, which is the deed Stops; the laws do not
+-- need that it does.
 abbrev pub happens : {V : Type 0} → Event V → World V → World V
 happens (Step a deeds) w = with_node w a (record { durable = all_done deeds (w a).durable; pending = all_done deeds (w a).durable })
 happens (Stopped a deeds) w = with_node w a (record { durable = (w a).durable; pending = all_done deeds (w a).durable })
-happens (Before a) w = with_node w a (restarted (w a).durable)
-happens (After a) w = with_node w a (restarted (w a).pending)
+happens (Before a) w = with_node w a (record { durable = (w a).durable; pending = (w a).durable })
+happens (After a) w = with_node w a (record { durable = (w a).pending; pending = (w a).pending })
 
 -- whether an event may happen in a ring of n acceptors. A node's step rests on its own face and on what durable faces say
 abbrev pub CanHappen : {V : Type 0} → ℕ → World V → Event V → Type 0

@@ -5,20 +5,21 @@
 //! values. A world is what any list of events that may happen leaves of the empty world, with n acceptors.
 #![tactic(auto)]
 
-ghost use Rattle.std.specs.Prelude.{◌≡◌, ℕ, List};
+ghost use Rattle.std.specs.Prelude.{ℕ, List};
 ghost use Rattle.ring_safety.specs.Example.{first_world, second_world, seven, with_state_after, with_state_before};
-ghost use Rattle.ring_safety.specs.Faces.{Proposal};
-ghost use Rattle.ring_safety.specs.Rules.{PromiseRule, VoteRule, ProposeRule, ChooseRule, StaysRule};
+ghost use Rattle.ring_safety.specs.Rules.{PromiseRule, VoteRule, ProposeRule, ChooseRule, OneValueRule, StaysRule};
 ghost use Rattle.ring_safety.specs.Worlds.{Event, CanRun, Chosen, durables, empty, run};
 
-/// Each face keeps the promises made in it, and both faces of a node keep those that it sent.
+/// Each face keeps the promises made in it, and both faces of a node keep, for ever, those that it sent.
 pub fn promise<V>()
-    ensures { (n : ℕ) (events : List (Event V)) → CanRun n empty events → PromiseRule (run events empty) }
+    ensures { (n : ℕ) (early late : List (Event V)) → CanRun n empty early → CanRun n (run early empty) late
+        → PromiseRule (run early empty) (run late (run early empty)) }
 {}
 
-/// Held votes were cast, cast votes were proposed, and both faces of a node keep the votes that it cast.
+/// Held votes were cast, cast votes were proposed, and both faces of a node keep, for ever, the votes that it cast.
 pub fn vote<V>()
-    ensures { (n : ℕ) (events : List (Event V)) → CanRun n empty events → VoteRule n (run events empty) }
+    ensures { (n : ℕ) (early late : List (Event V)) → CanRun n empty early → CanRun n (run early empty) late
+        → VoteRule n (run early empty) (run late (run early empty)) }
 {}
 
 /// One value is proposed in a ballot and instance, and a majority's promises stand behind it.
@@ -26,17 +27,17 @@ pub fn propose<V>()
     ensures { (n : ℕ) (events : List (Event V)) → CanRun n empty events → ProposeRule n (run events empty) }
 {}
 
-/// Where a value is chosen, each proposal there of that ballot or a higher one is for that value.
+/// Where a value is chosen, each proposal there of that ballot or a higher one is for that value, also after any further
+/// events.
 pub fn choose<V>()
-    ensures { (n : ℕ) (events : List (Event V)) → CanRun n empty events → ChooseRule n (run events empty) }
+    ensures { (n : ℕ) (early late : List (Event V)) → CanRun n empty early → CanRun n (run early empty) late
+        → ChooseRule n (run early empty) (run late (run early empty)) }
 {}
 
 /// Two values that are chosen at one instance are equal, also where the second is chosen after any further events.
 pub fn one_value<V>()
-    ensures together { (n : ℕ) (events : List (Event V)) → CanRun n empty events
-        → (c d : Proposal V) → Chosen n (durables (run events empty)) c → Chosen n (durables (run events empty)) d → c.instance ≡ d.instance → c.value ≡ d.value }
-    ensures later { (n : ℕ) (early late : List (Event V)) → CanRun n empty early → CanRun n (run early empty) late
-        → (c d : Proposal V) → Chosen n (durables (run early empty)) c → Chosen n (durables (run late (run early empty))) d → c.instance ≡ d.instance → c.value ≡ d.value }
+    ensures { (n : ℕ) (early late : List (Event V)) → CanRun n empty early → CanRun n (run early empty) late
+        → OneValueRule n (run early empty) (run late (run early empty)) }
 {}
 
 /// What durable faces said, their promises and their trims only grow, and what is chosen stays chosen.

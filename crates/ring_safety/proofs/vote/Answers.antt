@@ -1,7 +1,8 @@
--- The rule holds in each world that keeps the invariant, and each reachable one does.
-use Rattle.ring_safety.proofs.Worlds.{Sound-reached, vote_holds}
-use Rattle.ring_safety.specs.Worlds.{empty, run}
+-- Each reachable world keeps the invariant, and so the rule.
+use Rattle.ring_safety.proofs.Rules.{vote_holds}
+use Rattle.ring_safety.proofs.Worlds.{Sound-reached}
 use Rattle.ring_safety.proofs.vote.Goals as goal
+use Rattle.ring_safety.specs.Worlds.{empty, run}
 
 pub returns : goal.returns
-returns g c = λ n events can. vote_holds n (run events empty) (Sound-reached n events can)
+returns g c = λ n early late can. vote_holds n (run early empty) (Sound-reached n early can) late
