@@ -25,8 +25,8 @@ abbrev pub with_node : {K : Type 0} → World K → ℕ → Node K → World K
 with_node w a node k = cond (nat_eq k a) node (w k)
 
 pub data Event (K : Type 0) : Type 0 where
-  -- a step that ends well: its deeds are done together, and then said. It starts from the durable face: a pending one that
-  -- a stopped step left is dropped, as by a restart on the state before
+  -- a step that ends well: its deeds are done together, and then said. Each step starts from the durable face: a pending one
+  -- that a stopped step left is dropped, as by a restart on the state before
   Step : (node : ℕ) → List (Deed K) → Event K
   -- a step that a device failure stops: nothing of it is said, and the disk stands for the state before it or after it
   Stopped : (node : ℕ) → List (Deed K) → Event K

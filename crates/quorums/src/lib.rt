@@ -4,7 +4,7 @@
 //! is a test with a count, or a list of different members; `lists_are_tests` says that the two are one thing.
 #![tactic(auto)]
 
-ghost use Rattle.std.specs.Prelude.{◌≡◌, ◌↔◌, ℕ, ◌+◌, ◌<◌, ◌≤◌, Bool, true, List, length};
+ghost use Rattle.std.specs.Prelude.{◌≡◌, ◌↔◌, ℕ, ◌+◌, ◌<◌, ◌≤◌, Bool, true, List, length, Contains};
 ghost use Rattle.quorums.specs.Groups.{Has, count, majority, IsMajority, Shared, AreMembers, SharedInLists, is_in, members_of};
 
 /// Two groups of members below n whose sizes add up to more than n share a member.
@@ -33,4 +33,9 @@ pub fn lists_are_tests()
     ensures members { (n : ℕ) (g : ℕ → Bool) → AreMembers n (members_of g n) }
     ensures length { (n : ℕ) (g : ℕ → Bool) → length (members_of g n) ≡ count g n }
     ensures back { (n : ℕ) (g : ℕ → Bool) (m : ℕ) → Has (members_of g n) m ↔ ((m < n) × (g m ≡ true)) }
+{}
+
+/// `Has` is std's `Contains`.
+pub fn has_is_contains<T>()
+    ensures { (xs : List T) (x : T) → Has xs x ↔ Contains xs x }
 {}

@@ -30,7 +30,7 @@ module _ {V : Type 0} (n : ℕ) (w : World V) (sound : Sound n w) where
       (sound.pending (owner n q.ballot)).one_value p (subst (λ k. Has (w k).pending.proposals p) (ap (owner n) same) (in_owner a f is p h)) q (in_owner b g iz q i) same at
 
   keeps_promise : (a : ℕ) (f : Face V) → Local n (durables w) a f → (p : Promise V) → Has f.promises p → KeepsPromise f p
-  keeps_promise a f k p h = record { promised = k.promised p h; told = k.told_cast p h; outdone = k.outdone p h }
+  keeps_promise a f k p h = record { promised = k.promised p h; told = k.told_cast p h; not_above = k.told_promised p h; outdone = k.outdone p h }
 
   keeps_vote : (a : ℕ) (f : Face V) → IsFaceOf w a f → (c : Proposal V) → Has f.casts c → KeepsVote f c
   keeps_vote a f is c h =

@@ -5,11 +5,12 @@ use Rattle.ring_safety.specs.Faces.{Vote, Proposal, Promise, Face, rank}
 use Rattle.ring_safety.specs.Deeds.{IsProposed, Backing}
 use Rattle.ring_safety.specs.Worlds.{World, durables, IsFaceOf, Chosen}
 
--- a face keeps a promise: its promise is at least that ballot, what was told was cast, and at each instance of the page
--- that is not below the trim told, it casts no vote of a lower ballot that is above the vote told
+-- a face keeps a promise: its promise is at least that ballot, what was told was cast, in no ballot above it, and at each
+-- instance of the page that is not below the trim told, it casts no vote of a lower ballot that is above the vote told
 pub record KeepsPromise {V : Type 0} (f : Face V) (p : Promise V) : Type 0 where
   pub promised : p.ballot ≤ f.promise
   pub told : (i : ℕ) (vote : Vote V) → p.told i ≡ Some vote → Has f.casts (record { ballot = vote.ballot; instance = i; value = vote.value })
+  pub not_above : (i : ℕ) (vote : Vote V) → p.told i ≡ Some vote → vote.ballot ≤ p.ballot
   pub outdone : (c : Proposal V) → Has f.casts c → c.ballot < p.ballot → p.low ≤ c.instance → c.instance < p.high → p.trim ≤ c.instance
       → c.ballot < rank (p.told c.instance)
 
