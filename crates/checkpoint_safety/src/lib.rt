@@ -27,8 +27,8 @@ pub fn trim_is_reached<K>()
         → TrimRule s (run early (empty s)) (run late (run early (empty s))) }
 {}
 
-/// What is chosen in an attempt to recover reaches every trim that was made before the attempt began: before the step that
-/// began it, and, as is the same said of any world, while no durable face had begun it.
+/// What is chosen in an attempt to recover reaches every trim that any face had made before the step that began the attempt;
+/// and the same of every world in which the durable face of its node had not begun it.
 pub fn recovery_reaches_every_trim<K>()
     ensures begun { (s : Setting K) (early late : List (Event K)) (a number : ℕ) (deeds : List (Deed K)) → CanRun s (empty s) early
         → CanRun s (run early (empty s)) (Step a deeds ∷ late) → Has deeds (Begins number)
