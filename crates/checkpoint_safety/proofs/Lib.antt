@@ -3,3 +3,4 @@ pub mod Deeds
 pub mod Worlds
 pub mod Rules
 pub mod Example
+pub mod Turns

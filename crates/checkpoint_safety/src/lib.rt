@@ -6,13 +6,14 @@
 //! empty world.
 #![tactic(auto)]
 
-ghost use Rattle.std.specs.Prelude.{List, ◌∷◌, ℕ};
+ghost use Rattle.std.specs.Prelude.{◌≡◌, ◌++◌, ◌∷◌, [], ℕ, List};
 ghost use Rattle.quorums.specs.Groups.{Has};
-ghost use Rattle.checkpoint_safety.specs.Deeds.{Deed, Begins};
+ghost use Rattle.checkpoint_safety.specs.Deeds.{Deed, Begins, MayAll, all_done};
 ghost use Rattle.checkpoint_safety.specs.Example.{recovered_world, setting, trimmed_world, until_recovered, until_trimmed};
+ghost use Rattle.checkpoint_safety.specs.Faces.{Face};
 ghost use Rattle.checkpoint_safety.specs.Rules.{SaveRule, TrimRule, ReachesTrims, RestoreRule, ChoiceRule};
 ghost use Rattle.checkpoint_safety.specs.Tuples.{Setting};
-ghost use Rattle.checkpoint_safety.specs.Worlds.{Event, Step, CanRun, durables, empty, run};
+ghost use Rattle.checkpoint_safety.specs.Worlds.{World, Event, Step, CanHappen, CanRun, durables, empty, happens, run};
 
 /// What a node told, or gave as an answer, is reached by the newest checkpoint of each of its faces, for ever.
 pub fn told_is_reached<K>()
@@ -40,6 +41,19 @@ pub fn recovery_reaches_every_trim<K>()
 /// Of the answers that replicas of one partition gave to an attempt, one is at or after all of them.
 pub fn a_choice_stands<K>()
     ensures { (s : Setting K) (events : List (Event K)) → CanRun s (empty s) events → ChoiceRule s (run events (empty s)) }
+{}
+
+/// Events that may happen, and one more that may happen then, may happen in turn. So a world grows event by event.
+pub fn one_more_event<K>()
+    ensures can { (s : Setting K) (w : World K) (events : List (Event K)) (e : Event K) → CanRun s w events → CanHappen s (run events w) e → CanRun s w (events ++ e ∷ []) }
+    ensures world { (w : World K) (events : List (Event K)) (e : Event K) → run (events ++ e ∷ []) w ≡ happens e (run events w) }
+{}
+
+/// Two lists of deeds that may be done in turn may be done as one. So the deeds of a step may be told part by part.
+pub fn deeds_in_turn<K>()
+    ensures may { (s : Setting K) (faces : ℕ → Face K) (a : ℕ) (f : Face K) (first second : List (Deed K)) → MayAll s faces a f first
+        → MayAll s faces a (all_done first f) second → MayAll s faces a f (first ++ second) }
+    ensures done { (f : Face K) (first second : List (Deed K)) → all_done (first ++ second) f ≡ all_done second (all_done first f) }
 {}
 
 /// The laws are not about nothing: a run of three replicas in which a trim is made, and a replica that has saved nothing

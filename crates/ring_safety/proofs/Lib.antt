@@ -5,3 +5,4 @@ pub mod Choosing
 pub mod Worlds
 pub mod Rules
 pub mod Example
+pub mod Turns
