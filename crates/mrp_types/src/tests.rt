@@ -1,0 +1,83 @@
+use super::*;
+use std::test::*;
+
+#[test]
+fn majorities(rt: HostRuntime) {
+    for (n, want) in [(1, 1), (2, 2), (3, 2), (4, 3), (7, 4)] {
+        assert_eq!(rt; majority(n), want, "of {n}");
+    }
+}
+
+#[test]
+fn places_by_round_then_ring(rt: HostRuntime) {
+    // Two instances a round: (0,0), (0,1), (1,0), (1,1), (0,2), (0,3), (1,2), (1,3).
+    let order = [
+        (0, 0),
+        (0, 1),
+        (1, 0),
+        (1, 1),
+        (0, 2),
+        (0, 3),
+        (1, 2),
+        (1, 3),
+    ];
+    for (i, (ring, inst)) in order.iter().enumerate() {
+        for (j, (other, later)) in order.iter().enumerate() {
+            let a = Place {
+                ring: RingId(*ring),
+                inst: *inst,
+            };
+            let b = Place {
+                ring: RingId(*other),
+                inst: *later,
+            };
+            assert_eq!(rt; place_before(2, a, b), i < j, "{i} and {j}");
+        }
+    }
+}
+
+#[test]
+fn octets_grow(rt: HostRuntime) -> Result<(), Fail> {
+    let alloc = rt.alloc();
+    let mut octets = Octets::new(alloc);
+    assert!(rt; octets.is_empty());
+    octets.push(1)?;
+    octets.extend(&[2, 3])?;
+    assert_eq!(rt; octets.len(), 3);
+    assert_eq!(rt; octets.bytes(), [1, 2, 3].as_slice());
+    let copy = Octets::from_slice(alloc, octets.bytes())?;
+    let moved = Octets::from_vec([1, 2, 3].to_vec(alloc)?);
+    assert_eq!(rt; copy.bytes(), moved.bytes());
+    Ok(())
+}
+
+#[test]
+fn values_share_their_payload(rt: HostRuntime) -> Result<(), Fail> {
+    let payload = Payload::from_slice(rt.alloc(), b"ab")?;
+    let value = Value::Batch(payload.share()?);
+    let shared = value.share()?;
+    assert!(rt; value.same(&shared));
+    assert!(rt; !value.same(&Value::Skip));
+    assert_eq!(rt; payload.bytes(), b"ab".as_slice());
+    Ok(())
+}
+
+#[test]
+fn entries_in_range(rt: HostRuntime) -> Result<(), Fail> {
+    let alloc = rt.alloc();
+    for (seq, len, want) in [
+        (0, 0, false),
+        (1, 4096, true),
+        (1, 4097, false),
+        (u64::MAX / 2, 0, true),
+        (u64::MAX / 2 + 1, 0, false),
+    ] {
+        let entry = Entry {
+            client: ClientId(0),
+            seq,
+            command: Octets::from_vec(vec![in alloc; 0; len]?),
+        };
+        assert_eq!(rt; entry.is_valid(), want, "{seq} and {len} bytes");
+    }
+    Ok(())
+}
