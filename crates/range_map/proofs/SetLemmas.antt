@@ -1,11 +1,12 @@
 -- A range that is set, and what lies below a floor dropped.
 use Rattle.std.proofs.Common.{◌≡◌, ℕ, ◌^◌, ◌<◌, ◌≤◌, true, false, ◌&&◌, List, [], ◌∷◌, refl, sym, ◌∙◌, ap, subst, arith, inl, inr}
-use Rattle.std.specs.Prelude.{◌⊎◌, Option, Some, None, IfSome, IfNone, nat_le, nat_lt, if◌then◌else◌}
+use Rattle.std.specs.Prelude.{◌⊎◌, Option, Some, None, is_some, IfSome, IfNone, nat_le, nat_lt, if◌then◌else◌}
 use Rattle.std.specs.Ordering.{nat_cmp}
 use Rattle.std.specs.List.{slice_get}
-use Rattle.std.specs.BTreeMap.{BTreeMap, IsOrdered, Updates}
+use Rattle.std.specs.BTreeMap.{BTreeMap, IsOrdered, IsLowerBound, Updates}
 use Rattle.std.proofs.lemmas.Bool.{cases_lt, cases_eq}
 use Rattle.std.proofs.lemmas.Bool.Decides.{nat_tests}
+use Rattle.std.proofs.lemmas.Map.Keys.{le_from_not_gt}
 use Rattle.range_map.specs.declared.run.Run.{Run}
 use Rattle.range_map.specs.Runs.{held, run_from, IsPlacedFrom, IsApart, IsJoinedBut, IsCutAt, IsCover, IsBare, IsMaximal, seen_at, Cuts, Joins, Clears, Sets, Settles, Drops, Replaces}
 use Rattle.range_map.proofs.RunsLemmas.{within-true, within-below, within-above, apart_from_placed, from_there, run_from-later, Covered, Bare, holder, held_cover, held_bare}
@@ -260,6 +261,21 @@ module _ {T : Type 0} where
       let same : p ≡ (k, run) = cc in
       let end : p.1.end ≡ run.end = ap (λ (x : ℕ × Run T). x.1.end) same in
       drops_head floor start l n p some (omega arith) drops
+
+  -- where the first run passes the floor, each does
+  pub freed_first : (floor : ℕ) (m : BTreeMap ℕ (Run T)) (k : ℕ) (run : Run T) → IsPlacedFrom 0 m.entries → run_from m.entries k ≡ Some run → IsLowerBound nat_cmp m k → floor < run.end → (a : ℕ) (r : Run T) → run_from m.entries a ≡ Some r → floor < r.end
+  freed_first floor m k run placed first least past a r found =
+      let apart = apart_from_placed 0 m.entries placed in
+      let from : k ≤ a = le_from_not_gt k a (least a (ap is_some found)) in
+      let longer = apart.filled a r found in
+      elim (cases_eq a k) [
+        | inl same ↦
+            let there : run_from m.entries k ≡ Some r = subst (λ x. run_from m.entries x ≡ Some r) same found in
+            let one : r ≡ run = cc in
+            let end : r.end ≡ run.end = ap (λ (x : Run T). x.end) one in
+            omega arith
+        | inr ne ↦ let before = apart.apart k a run r first found (omega arith) in omega arith
+      ]
 
   -- ---- a range that is set above a floor
 

@@ -1,6 +1,7 @@
 //! Changes of the runs of a map.
-ghost use Rattle.std.specs.Prelude.{◌<◌, ◌≤◌, ◌^◌, OnOk, IfOk};
-ghost use Rattle.range_map.specs.Runs.{IsPlacedFrom, IsMaximal, Cuts, Joins, Clears, Sets, Settles, Drops, Replaces};
+ghost use Rattle.std.specs.Prelude.{◌≡◌, ℕ, ◌<◌, ◌≤◌, ◌^◌, OnOk, IfOk};
+ghost use Rattle.range_map.specs.Runs.{run_from, IsPlacedFrom, IsMaximal, Cuts, Joins, Clears, Sets, Settles, Drops, Replaces};
+ghost use Rattle.range_map.specs.declared.run.Run.{Run};
 
 use crate::cover::{covering, first_begin};
 use crate::run::Run;
@@ -125,7 +126,8 @@ pub fn replace_range<T: Same + Drop>(
 /// Frees the runs that end at `floor` or before.
 pub fn drop_passed<T: Drop>(runs: &mut BTreeMap<u64, Run<T>>, floor: u64)
     requires { IsMaximal runs.old.entries }
-    ensures { Drops floor runs.old.entries runs.new.entries }
+    ensures kept { Drops floor runs.old.entries runs.new.entries }
+    ensures freed { (a : ℕ) (run : Run T) → run_from runs.new.entries a ≡ Some run → floor < run.end }
 {
     while let Some((_, run)) = runs.first_key_value() {
         if floor < run.end {
