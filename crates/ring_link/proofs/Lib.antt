@@ -1,0 +1,2 @@
+pub mod SilenceLemmas
+mod SilenceRows

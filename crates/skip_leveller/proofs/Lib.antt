@@ -1,0 +1,2 @@
+pub mod LevellingLemmas
+mod LevellingRows
