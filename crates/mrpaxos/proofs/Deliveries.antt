@@ -1,13 +1,12 @@
 -- The turns of a delivery.
-use Rattle.std.proofs.Common.{arith, ◌≡◌, ◌≢◌, ◌<◌, ◌≤◌, ℕ, ◌+◌, List, [], ◌∷◌, ◌++◌, length, Option, Some, None, refl, sym, ap, ◌∙◌, subst, nat_lt, ◌==◌, ◌&&◌, Bool, true, false, append_assoc, append-nil}
-use Rattle.std.proofs.lemmas.Grind.{common_steps}
+use Rattle.std.proofs.Common.{arith, ◌≡◌, ◌≢◌, ◌<◌, ◌≤◌, ℕ, ◌+◌, List, [], ◌∷◌, ◌++◌, length, Some, refl, sym, ap, ◌∙◌, nat_lt, ◌==◌, ◌&&◌, Bool, true, false, append-nil}
 use Rattle.std.specs.Prelude.{slice_get}
 use Rattle.mrp_types.specs.declared.id.NodeId.{NodeId}
 use Rattle.mrp_types.specs.declared.id.TheConstants.{END}
 use Rattle.mrp_types.specs.declared.value.Value.{Value}
 use Rattle.transcript.specs.declared.line.Line.{Line}
 use Rattle.transcript.specs.declared.line.Line.TheVariants.{Deliver}
-use Rattle.mrpaxos.specs.Learner.{Learner, Learned, ready, after_line}
+use Rattle.mrpaxos.specs.Learner.{Learned, ready, after_line}
 
 -- nothing is ready
 abbrev pub idle : ℕ → List (ℕ × Value) → Learned

@@ -1,12 +1,12 @@
 -- How a run ends.
-use Rattle.std.proofs.Common.{arith, ◌≡◌, ◌≤◌, ◌<◌, ℕ, ◌+◌, ◌⊎◌, inl, inr, List, [], ◌∷◌, ◌++◌, length, get_or, map, Option, Some, None, refl, sym, ap, ◌∙◌, subst, Bool, true, codes, length-append, append-nil, Ok, Err}
+use Rattle.std.proofs.Common.{arith, ◌≡◌, ◌≤◌, ℕ, ◌+◌, inl, inr, List, [], ◌∷◌, ◌++◌, length, get_or, map, Option, Some, None, refl, sym, ap, ◌∙◌, subst, Bool, codes, length-append, append-nil, Ok, Err}
 use Rattle.std.proofs.lemmas.Grind.{common_steps}
 use Rattle.std.proofs.lemmas.Slice.Eq.{bytes_eq-Decides}
 use Rattle.std.proofs.KnownBytes.{Consumes-nil, Keeps-refl}
 use Rattle.std.specs.Prelude.{IfSome, IsTrue, ◌↔◌}
 use Rattle.std.specs.Str.{bytes_eq}
-use Rattle.std.specs.Io.KnownBytes.{Consumes, IsAtEnd, Keeps}
-use Rattle.outside.specs.Reading.{ReadsAll, Comes}
+use Rattle.std.specs.Io.KnownBytes.{Consumes, IsAtEnd}
+use Rattle.outside.specs.Reading.{ReadsAll}
 use Rattle.outside.specs.declared.refused.ReadFault.TheVariants as fault
 use Rattle.schedule.specs.declared.event.ScheduleEvent.{ScheduleEvent}
 use Rattle.schedule.specs.Spelling.{IsSchedule}
@@ -14,7 +14,7 @@ use Rattle.mrpaxos.specs.declared.top.Status.{Status}
 use Rattle.mrpaxos.specs.declared.top.Status.TheVariants.{Done, Usage, Input, Source, Sink, Memory}
 use Rattle.mrpaxos.specs.declared.top.InputFault.TheVariants as input
 use Rattle.mrpaxos.specs.declared.top.Which.TheVariants as which
-use Rattle.mrpaxos.specs.Top.{Ends, Says, Judged, IsReplay, IsNoSchedule, IsForSchedule, IsForNone, IsUntouched, IsWhole, Intake, Output, Came}
+use Rattle.mrpaxos.specs.Top.{Ends, Says, Judged, IsReplay, IsNoSchedule, IsForSchedule, IsForNone, IsUntouched, IsWhole, Intake, Output}
 
 -- ---- the words
 

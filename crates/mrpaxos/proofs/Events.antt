@@ -1,6 +1,5 @@
 -- What an event asks of the frames that it sends, and the turns of a flow.
-use Rattle.std.proofs.Common.{arith, ◌≡◌, ◌<◌, ◌≤◌, ℕ, ◌+◌, ◌-◌, ◌^◌, suc, List, [], ◌∷◌, ◌++◌, length, Option, Some, None, refl, sym, ap, ◌∙◌, subst, append_assoc, append-nil}
-use Rattle.std.proofs.lemmas.Grind.{common_steps}
+use Rattle.std.proofs.Common.{arith, ◌≡◌, ◌<◌, ◌≤◌, ℕ, ◌+◌, ◌-◌, ◌^◌, suc, List, ◌++◌, length, Some, refl, sym, ap, ◌∙◌, append_assoc}
 use Rattle.std.specs.Prelude.{slice_get}
 use Rattle.mrp_types.specs.declared.id.ClientId.{ClientId}
 use Rattle.mrp_types.specs.Entries.{IsEntry}
@@ -11,7 +10,7 @@ use Rattle.command_codec.proofs.Sizes.{length-append_command}
 use Rattle.transcript.specs.declared.line.Line.{Line}
 use Rattle.schedule.specs.Spelling.{IsAsked}
 use Rattle.mrpaxos.specs.declared.frame.Frame.{Frame}
-use Rattle.mrpaxos.specs.System.{World, Outcome, flows, moves_on, handles, quiet}
+use Rattle.mrpaxos.specs.System.{World, Outcome, flows, moves_on, handles}
 
 short_command : (command : Command) → IsAsked command → length (command_bytes command) ≤ 4096
 short_command (Append log value) is = let short : length value ≤ 2048 = is.1 in grind (arith, length-append_command log value)

@@ -1,19 +1,14 @@
 -- Lines that are exact: a learned value is the proposed one of its instance, and a delivery is the next one of its node.
-use Rattle.std.proofs.Common.{arith, ◌≡◌, ◌≢◌, ◌<◌, ◌≤◌, ℕ, ◌+◌, List, [], ◌∷◌, ◌++◌, length, get_or, Option, Some, None, refl, sym, ap, ◌∙◌, subst, append_assoc, append-nil, Bool, true, false, ◌==◌, ◌&&◌, nat_le, nat_lt, if◌then◌else◌, IsTrue}
-use Rattle.std.proofs.lemmas.Grind.{common_steps}
-use Rattle.std.specs.List.{AllByRecursion}
+use Rattle.std.proofs.Common.{arith, ◌≡◌, ℕ, ◌+◌, List, [], ◌∷◌, ◌++◌, length, Some, refl, sym, ap, ◌∙◌, subst, append_assoc, append-nil, Bool, true, false, ◌==◌, if◌then◌else◌, IsTrue}
 use Rattle.mrp_types.specs.declared.id.NodeId.{NodeId}
 use Rattle.mrp_types.specs.declared.id.RingId.{RingId}
-use Rattle.mrp_types.specs.declared.id.TheConstants.{END}
 use Rattle.mrp_types.specs.declared.place.Place.{Place}
-use Rattle.mrp_types.specs.declared.value.Value.{Value}
-use Rattle.mrp_types.specs.declared.value.Value.TheVariants.{Skip, Batch}
-use Rattle.mrp_types.specs.Book.{Learning, book_of, covers}
+use Rattle.mrp_types.specs.declared.value.Value.TheVariants.{Batch}
 use Rattle.transcript.specs.declared.line.Line.{Line}
 use Rattle.transcript.specs.declared.line.Line.TheVariants.{Learn, Deliver, End}
-use Rattle.plain_model.specs.Lines.{learnings, book, position_from, position_after, deliveries, counted}
+use Rattle.plain_model.specs.Lines.{book, position_after, deliveries, counted}
 use Rattle.plain_model.specs.Faithful.{F1, F2, IsFaithfulLine, IsFaithfulAfter, position}
-use Rattle.plain_model.proofs.Fronts.{learnings-append, book-more, position_from-append}
+use Rattle.plain_model.proofs.Fronts.{position_from-append}
 use Rattle.mrpaxos.specs.Order.{one_ring}
 
 abbrev pub ring_0 : RingId

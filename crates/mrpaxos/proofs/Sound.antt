@@ -1,33 +1,21 @@
 -- Each event keeps the world and its lines exact.
-use Rattle.std.proofs.Common.{arith, ◌≡◌, ◌≢◌, ◌<◌, ◌≤◌, ℕ, zero, suc, ◌+◌, ◌-◌, ◌^◌, ◌%◌, List, [], ◌∷◌, ◌++◌, length, get_or, Option, Some, None, refl, sym, ap, ◌∙◌, subst, append_assoc, append-nil, length-append, Bool, true, false, ◌==◌, ◌&&◌, ◌||◌, nat_le, nat_lt, if◌then◌else◌}
-use Rattle.std.proofs.lemmas.Grind.{common_steps}
+use Rattle.std.proofs.Common.{arith, ◌≡◌, ◌≢◌, ◌≤◌, ℕ, ◌+◌, List, [], ◌∷◌, ◌++◌, length, get_or, Some, refl, sym, ap, ◌∙◌, subst, append_assoc, append-nil, Bool, true, false, ◌==◌, ◌&&◌, nat_lt, if◌then◌else◌}
 use Rattle.std.specs.List.{AllByRecursion}
-use Rattle.std.specs.Prelude.{slice_get, slice_set, is_some, count_ones}
 use Rattle.std.specs.Ordering.{nat_cmp}
-use Rattle.std.specs.BTreeMap.{insert_entry, is_at}
-use Rattle.std.specs.Map.{lookup}
+use Rattle.std.specs.BTreeMap.{insert_entry}
 use Rattle.mrp_types.specs.declared.id.NodeId.{NodeId}
 use Rattle.mrp_types.specs.declared.id.TheConstants.{END}
 use Rattle.mrp_types.specs.declared.value.Value.{Value}
-use Rattle.mrp_types.specs.declared.value.Value.TheVariants.{Skip, Batch}
-use Rattle.mrp_types.specs.declared.value.Entry.{Entry}
-use Rattle.command_codec.specs.Spelling.{batch_bytes, command_bytes}
+use Rattle.mrp_types.specs.declared.value.Value.TheVariants.{Batch}
 use Rattle.transcript.specs.declared.line.Line.{Line}
-use Rattle.transcript.specs.declared.line.Line.TheVariants.{Learn, Deliver, End}
-use Rattle.schedule.specs.declared.event.ScheduleEvent.{ScheduleEvent}
-use Rattle.schedule.specs.declared.event.ScheduleEvent.TheVariants as event
-use Rattle.plain_model.specs.Lines.{book, position_after}
+use Rattle.transcript.specs.declared.line.Line.TheVariants.{Learn, Deliver}
+use Rattle.plain_model.specs.Lines.{book}
 use Rattle.plain_model.specs.Faithful.{F1, IsWide, position}
-use Rattle.plain_model.proofs.Fronts.{book-more, position_from-append}
-use Rattle.mrpaxos.specs.declared.frame.Frame.{Frame}
-use Rattle.mrpaxos.specs.declared.frame.Body.{Body}
-use Rattle.mrpaxos.specs.declared.frame.Body.TheVariants.{Submit, Accept, Decide}
+use Rattle.plain_model.proofs.Fronts.{position_from-append}
 use Rattle.mrpaxos.specs.Order.{one_ring}
-use Rattle.mrpaxos.specs.Ring.{successor, has_bit, with_bit}
 use Rattle.mrpaxos.specs.Learner.{Learner, Learned, ready, learning, holds, after_line}
-use Rattle.mrpaxos.specs.System.{World, Outcome, start, quiet, sends, submits, request_of, request_cmp, learner_at, learner_or, learns, then_sends, votes, accepts, passes, handles, delivers, and_then, moves_on, flows, asks, happens, lines_from, trace}
-use Rattle.mrpaxos.proofs.Exact.{ring_0, Next, IsExactAfter, IsExactAfter-append}
-use Rattle.mrpaxos.proofs.Values.{IsOf, IsOf-more, one_of, LineOf, lines_more, lines_append, book_is, book_has, BodyOf, FrameOf, frames_more, frames_push, frame_at, HeldOf, LearnerOf, held_more, held_values, held_insert}
+use Rattle.mrpaxos.proofs.Exact.{ring_0, Next, IsExactAfter}
+use Rattle.mrpaxos.proofs.Values.{IsOf, one_of, LineOf, book_is, book_has, HeldOf, LearnerOf, held_more, held_insert}
 
 -- ---- deliveries that are ready
 

@@ -1,5 +1,5 @@
 -- Every world that events reach is sound: what was proposed is what frames, lines and learners say.
-use Rattle.std.proofs.Common.{arith, lit≤, inl, inr, ◌≡◌, ◌≢◌, ◌<◌, ◌≤◌, ℕ, zero, suc, ◌+◌, ◌-◌, ◌^◌, ◌%◌, List, [], ◌∷◌, ◌++◌, length, get_or, Option, Some, None, refl, sym, ap, ◌∙◌, subst, append_assoc, append-nil, length-append, Bool, true, false, ◌==◌, ◌&&◌, ◌||◌, nat_le, nat_lt, if◌then◌else◌}
+use Rattle.std.proofs.Common.{arith, lit≤, inl, inr, ◌≡◌, ◌≢◌, ◌<◌, ◌≤◌, ℕ, zero, suc, ◌+◌, ◌-◌, ◌^◌, ◌%◌, List, [], ◌∷◌, ◌++◌, length, get_or, Option, Some, None, refl, sym, ap, ◌∙◌, subst, append_assoc, append-nil, length-append, Bool, true, false, ◌==◌, ◌||◌, nat_le, nat_lt, if◌then◌else◌}
 use Rattle.std.proofs.lemmas.Grind.{common_steps}
 use Rattle.std.proofs.lemmas.Bool.{cases_eq}
 use Rattle.std.specs.List.{AllByRecursion}
@@ -10,25 +10,23 @@ use Rattle.mrp_types.specs.declared.id.NodeId.{NodeId}
 use Rattle.mrp_types.specs.declared.id.ClientId.{ClientId}
 use Rattle.mrp_types.specs.declared.id.TheConstants.{END}
 use Rattle.mrp_types.specs.declared.value.Value.{Value}
-use Rattle.mrp_types.specs.declared.value.Value.TheVariants.{Skip, Batch}
+use Rattle.mrp_types.specs.declared.value.Value.TheVariants.{Batch}
 use Rattle.mrp_types.specs.declared.value.Entry.{Entry}
 use Rattle.command_codec.specs.declared.command.Command.{Command}
 use Rattle.command_codec.specs.Spelling.{batch_bytes, command_bytes}
 use Rattle.transcript.specs.declared.line.Line.{Line}
-use Rattle.transcript.specs.declared.line.Line.TheVariants.{Learn, Deliver, End}
+use Rattle.transcript.specs.declared.line.Line.TheVariants.{End}
 use Rattle.schedule.specs.declared.event.ScheduleEvent.{ScheduleEvent}
 use Rattle.schedule.specs.declared.event.ScheduleEvent.TheVariants.{Ask, Flow, Deliver as Delivers}
-use Rattle.plain_model.specs.Faithful.{position}
 use Rattle.mrpaxos.specs.declared.frame.Frame.{Frame}
 use Rattle.mrpaxos.specs.declared.frame.Body.{Body}
 use Rattle.mrpaxos.specs.declared.frame.Body.TheVariants.{Submit, Accept, Decide}
-use Rattle.mrpaxos.specs.Order.{one_ring}
 use Rattle.mrpaxos.specs.Ring.{successor, has_bit, with_bit}
 use Rattle.mrpaxos.specs.Learner.{Learner, Learned, learning}
-use Rattle.mrpaxos.specs.System.{World, Outcome, start, quiet, sends, submits, request_of, request_cmp, learner_at, learner_or, learns, then_sends, votes, accepts, passes, handles, delivers, and_then, moves_on, flows, asks, happens, lines_from, trace}
+use Rattle.mrpaxos.specs.System.{World, Outcome, start, quiet, sends, request_of, request_cmp, learner_at, learner_or, learns, then_sends, votes, handles, delivers, and_then, moves_on, flows, asks, happens, lines_from, trace}
 use Rattle.mrpaxos.specs.Top.{KeepsRules}
 use Rattle.mrpaxos.proofs.Exact.{IsExactAfter, IsExactAfter-append, exact_is_faithful, in_turn}
-use Rattle.mrpaxos.proofs.Values.{IsOf, IsOf-more, LineOf, lines_more, lines_append, BodyOf, FrameOf, frames_more, frames_push, frame_at, LearnerOf, held_more, held_values}
+use Rattle.mrpaxos.proofs.Values.{IsOf, LineOf, lines_more, lines_append, BodyOf, FrameOf, frames_more, frames_push, frame_at, LearnerOf, held_more, held_values}
 use Rattle.mrpaxos.proofs.Sound.{Goes, learning_goes}
 
 pub record Sound (values : List (List ℕ)) (before : List Line) (w : World) : Type 0 where

@@ -1,7 +1,5 @@
 -- Worked schedules and the lines that they print.
 use Rattle.std.specs.Prelude.{ℕ, ◌+◌, List, [], ◌∷◌, ◌++◌}
-use Rattle.mrp_types.specs.declared.id.NodeId.{NodeId}
-use Rattle.mrp_types.specs.declared.value.Value.{Value}
 use Rattle.mrp_types.specs.declared.value.Value.TheVariants.{Batch}
 use Rattle.command_codec.specs.declared.command.Command.TheVariants.{Append}
 use Rattle.transcript.specs.declared.line.Line.{Line}

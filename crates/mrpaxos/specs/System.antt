@@ -1,5 +1,5 @@
 -- The system of one ring: what happens at each event, and the lines of a whole schedule.
-use Rattle.std.specs.Prelude.{ℕ, ◌<◌, ◌+◌, ◌-◌, ◌/◌, ◌%◌, ◌^◌, zero, suc, ◌==◌, nat_lt, nat_le, ◌||◌, ◌&&◌, not, bit_and, bit_or, count_ones, Bool, true, false, if◌then◌else◌, List, [], ◌∷◌, ◌++◌, length, Option, Some, None, is_some, slice_get, slice_index, slice_set}
+use Rattle.std.specs.Prelude.{ℕ, ◌<◌, ◌+◌, ◌-◌, ◌^◌, zero, suc, ◌==◌, nat_lt, nat_le, ◌||◌, count_ones, if◌then◌else◌, List, [], ◌∷◌, ◌++◌, length, Option, Some, None, is_some, slice_get, slice_index, slice_set}
 use Rattle.std.specs.Ordering.{nat_cmp, ordering_then}
 use Rattle.std.specs.BTreeMap.{is_at, insert_entry}
 use Rattle.std.specs.Map.{lookup}
@@ -8,7 +8,7 @@ use Rattle.mrp_types.specs.declared.id.NodeId.{NodeId}
 use Rattle.mrp_types.specs.declared.id.ClientId.{ClientId}
 use Rattle.mrp_types.specs.declared.id.TheConstants.{END}
 use Rattle.mrp_types.specs.declared.value.Value.{Value}
-use Rattle.mrp_types.specs.declared.value.Value.TheVariants.{Skip, Batch}
+use Rattle.mrp_types.specs.declared.value.Value.TheVariants.{Batch}
 use Rattle.mrp_types.specs.declared.value.Entry.{Entry}
 use Rattle.mrp_types.specs.Entries.{IsEntry}
 use Rattle.command_codec.specs.declared.command.Command.{Command}
@@ -22,7 +22,7 @@ use Rattle.mrpaxos.specs.declared.frame.Body.{Body}
 use Rattle.mrpaxos.specs.declared.frame.Body.TheVariants.{Submit, Accept, Decide}
 use Rattle.mrpaxos.specs.declared.request.Request.{Request}
 use Rattle.mrpaxos.specs.Ring.{successor, has_bit, with_bit}
-use Rattle.mrpaxos.specs.Learner.{Learner, Learned, learning}
+use Rattle.mrpaxos.specs.Learner.{Learner, learning}
 
 -- by client and then by number
 abbrev pub request_cmp : Request → Request → Ordering

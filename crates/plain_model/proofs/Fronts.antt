@@ -1,5 +1,5 @@
 -- Fronts of faithful lines, and what stays as lines come.
-use Rattle.std.proofs.Common.{arith, ◌≡◌, ℕ, ◌+◌, List, [], ◌∷◌, ◌++◌, Option, Some, None, refl, sym, ap, ◌∙◌, subst, append_assoc, append-nil, Bool, true, false, ◌==◌, if◌then◌else◌}
+use Rattle.std.proofs.Common.{arith, ◌≡◌, ℕ, List, [], ◌∷◌, ◌++◌, Option, Some, refl, sym, ap, ◌∙◌, subst, append_assoc, append-nil, Bool, true, false, if◌then◌else◌}
 use Rattle.mrp_types.specs.declared.id.NodeId.{NodeId}
 use Rattle.mrp_types.specs.declared.id.RingId.{RingId}
 use Rattle.mrp_types.specs.declared.place.Place.{Place}
@@ -8,7 +8,7 @@ use Rattle.mrp_types.specs.Book.{Learning, book_of, covers}
 use Rattle.transcript.specs.declared.line.Line.{Line}
 use Rattle.transcript.specs.declared.line.Line.TheVariants.{Learn, Deliver, End}
 use Rattle.plain_model.specs.Lines.{learnings, book, position_from, position_after}
-use Rattle.plain_model.specs.Faithful.{Order, IsFaithful, IsFaithfulAfter, IsFaithfulLine}
+use Rattle.plain_model.specs.Faithful.{Order, IsFaithfulAfter}
 
 pub IsFaithfulAfter-front : (o : Order) (before front rest : List Line) → IsFaithfulAfter o before (front ++ rest) → IsFaithfulAfter o before front
 IsFaithfulAfter-front o before [] rest all = tt

@@ -1,5 +1,4 @@
-use Rattle.std.proofs.Common.{arith, ◌≡◌, ◌+◌, sym, ◌∙◌, ap, length, drop}
-use Rattle.std.proofs.lemmas.Grind.{common_steps}
+use Rattle.std.proofs.Common.{arith, ◌+◌, ◌∙◌, ap, length, drop}
 use Rattle.mrpaxos.proofs.Runs.{begins, refused, one_more, ends, event_at, none_at, valid_after}
 use Rattle.mrpaxos.proofs.replay.replay.Goals as goal
 

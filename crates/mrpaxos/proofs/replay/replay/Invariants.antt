@@ -1,7 +1,5 @@
-use Rattle.std.proofs.Common.{◌≡◌, ◌++◌, drop, List, ℕ}
+use Rattle.std.proofs.Common.{◌≡◌, drop}
 use Rattle.std.specs.List.{AllByRecursion}
-use Rattle.std.specs.Io.KnownBytes.{Appends}
-use Rattle.transcript.specs.Spelling.{lines_text}
 use Rattle.schedule.specs.Spelling.{IsEvent}
 use Rattle.mrpaxos.proofs.Runs.{Replayed}
 use Rattle.mrpaxos.proofs.replay.replay.Given as goal

@@ -1,5 +1,4 @@
-use Rattle.std.proofs.Common.{arith, ◌≡◌, length, codes}
-use Rattle.std.proofs.lemmas.Grind.{common_steps}
+use Rattle.std.proofs.Common.{arith, ◌≡◌, length}
 use Rattle.std.specs.Prelude.{string_bytes}
 use Rattle.mrpaxos.proofs.Endings.{one_item, replay_if}
 use Rattle.mrpaxos.proofs.top.is_replay.Goals as goal

@@ -1,4 +1,4 @@
-use Rattle.std.proofs.Common.{arith, ◌≡◌, ◌≤◌, sym}
+use Rattle.std.proofs.Common.{arith}
 use Rattle.std.proofs.lemmas.Grind.{common_steps}
 use Rattle.mrpaxos.proofs.Events.{asked_entry}
 use Rattle.mrpaxos.proofs.world.World.ask.Goals as goal

@@ -1,4 +1,4 @@
-use Rattle.std.proofs.Common.{◌≡◌, ◌∙◌, sym, Some}
+use Rattle.std.proofs.Common.{◌∙◌, sym}
 use Rattle.mrpaxos.proofs.Events.{one_turn, Flows}
 use Rattle.mrpaxos.proofs.world.World.flow.Goals as goal
 
