@@ -78,6 +78,11 @@ fn entries_in_range(rt: HostRuntime) -> Result<(), Fail> {
             command: Octets::from_vec(vec![in alloc; 0; len]?),
         };
         assert_eq!(rt; entry.is_valid(), want, "{seq} and {len} bytes");
+        let copy = entry.copy(alloc)?;
+        assert_eq!(rt;
+            (copy.client.0, copy.seq, copy.command.len()),
+            (0, seq, len)
+        );
     }
     Ok(())
 }

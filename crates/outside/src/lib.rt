@@ -14,3 +14,6 @@ pub use memory::{MemSink, MemSource};
 pub use refused::{ReadFault, Refused};
 pub use sink::{Sink, WriteSink, write_all};
 pub use source::{ReadSource, Source, read_all};
+
+#[cfg(test)]
+mod tests;

@@ -7,3 +7,6 @@ mod reading;
 pub use event::{Schedule, ScheduleEvent};
 pub use reading::read;
 pub use text_lines::TextFault;
+
+#[cfg(test)]
+mod tests;

@@ -11,3 +11,6 @@ pub use fault::TextFault;
 pub use find::{find_byte, split_line};
 pub use words::Words;
 pub use writing::{put_hex, put_number, put_word};
+
+#[cfg(test)]
+mod tests;

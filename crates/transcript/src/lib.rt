@@ -8,3 +8,6 @@ mod writing;
 pub use line::Line;
 pub use lines::Lines;
 pub use writing::{put_line, write_line};
+
+#[cfg(test)]
+mod tests;
