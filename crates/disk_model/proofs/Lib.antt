@@ -1,0 +1,4 @@
+pub mod Bytes
+pub mod CrashLaws
+pub mod OwnSteps
+pub mod Reading
