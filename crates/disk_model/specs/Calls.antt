@@ -1,6 +1,6 @@
 -- What a disk tells: the areas at its start and the calls that took effect since. These determine what a read
 -- gives, and which images a crash may leave, now and at each earlier moment.
-use Rattle.std.specs.Prelude.{◌≡◌, ℕ, Bool, true, List, [], ◌∷◌, ◌++◌, Option, None, Some, if◌then◌else◌}
+use Rattle.std.specs.Prelude.{◌≡◌, ℕ, Bool, true, List, [], ◌∷◌, ◌++◌, Option, None, Some, take, if◌then◌else◌}
 use Rattle.disk_model.specs.declared.area.Area.{Area}
 use Rattle.disk_model.specs.declared.area.Area.TheVariants.{Journal0, Journal1, Check2, Check3}
 use Rattle.disk_model.specs.declared.areas.Areas.{Areas}
@@ -33,6 +33,13 @@ own area (Write b at bytes ∷ calls) = if same area b then Put at bytes ∷ own
 own area (Cut b len ∷ calls) = if same area b then Shrink len ∷ own area calls else own area calls
 own area (Sync ∷ calls) = Flush ∷ own area calls
 
+-- the calls that do these steps to an area
+abbrev pub on : Area → List Step → List Call
+on area [] = []
+on area (Put at bytes ∷ steps) = Write area at bytes ∷ on area steps
+on area (Shrink len ∷ steps) = Cut area len ∷ on area steps
+on area (Flush ∷ steps) = Sync ∷ on area steps
+
 -- what a read of an area gives
 abbrev pub area_bytes : Area → Told → List ℕ
 area_bytes area t = after (bytes_of area t.start) (own area t.calls)
@@ -62,3 +69,22 @@ IsSettled t = (area : Area) → (kept area t).pending ≡ []
 pub record Tells (telling : Option Told) (honesty : Bool) (t : Told) : Type 0 where
   pub honest : honesty ≡ true
   pub told : telling ≡ Some t
+
+-- what a disk tells that made the calls which follow from what it told
+abbrev pub made_by : (Told → List Call) → Option Told → Option Told
+made_by calls None = None
+made_by calls (Some t) = Some (and_then t (calls t))
+
+-- an honest disk made these calls
+abbrev pub Makes : Bool → Option Told → Option Told → (Told → List Call) → Type 0
+Makes honesty old now calls = honesty ≡ true → now ≡ made_by calls old
+
+-- an honest disk made the first of these calls, and no other
+abbrev pub MakesFirst : Bool → Option Told → Option Told → (Told → List Call) → Type 0
+MakesFirst honesty old now calls = (j : ℕ) × Makes honesty old now (λ t. take j (calls t))
+
+-- At each moment since a disk told t, a crash leaves only images of this kind.
+pub record LeavesOnly (t : Told) (now : Option Told) (P : Areas → Type 0) : Type 0 where
+  pub made : List Call
+  pub told : now ≡ Some (and_then t made)
+  pub each : (i : ℕ) (image : Areas) → IsImage (and_then t (take i made)) image → P image
