@@ -6,14 +6,14 @@ use Rattle.disk_model.specs.declared.areas.Areas.{Areas}
 use Rattle.disk_model.specs.declared.call.Call.TheVariants.{Write, Cut, Sync}
 use Rattle.disk_model.specs.Areas.{bytes_of, same}
 use Rattle.disk_model.specs.Calls.{Told, and_then, area_bytes, reads, IsImage, IsSettled}
-use Rattle.disk_model.specs.Steps.{written}
+use Rattle.disk_model.specs.Steps.{written, after}
 use Rattle.disk_model.proofs.Bytes.{length-written}
-use Rattle.disk_model.proofs.OnArea.{image-on, image-other, settled-sync}
+use Rattle.disk_model.proofs.OnArea.{own-on, image-on, image-other, settled-sync}
 use Rattle.disk_model.proofs.Reading.{area_bytes-and_then, reads-bytes}
 use Rattle.gate_area.specs.declared.pair.Pair.{Pair}
 use Rattle.gate_area.specs.declared.pair.Pair.TheVariants.{Journal, Check}
 use Rattle.gate_area.specs.declared.pair.Head.TheVariants.{Closed}
-use Rattle.gate_area.specs.Gate.{retire_steps, retire_calls, gate_steps, gate_calls, opened, OpenOrShut, FrontOrShort, OthersStay, StandsAsEither, RetireLeaves, FoundLeaves, IsFoundable}
+use Rattle.gate_area.specs.Gate.{IsRetired, retire_steps, retire_calls, gate_steps, gate_calls, opened, OpenOrShut, FrontOrShort, OthersStay, StandsAsEither, RetireLeaves, FoundLeaves, IsFoundable}
 use Rattle.gate_area.specs.Standing.{pair_of, second_of, head_of}
 use Rattle.gate_area.proofs.Heads.{retire_first, retire_second, found_first, found_second, beside_first, beside_second}
 use Rattle.gate_area.proofs.Moments.{retire_file, found_file}
@@ -74,6 +74,19 @@ retire_leaves t area settled i image is =
 pub retire_settles : (area : Area) (t : Told) → IsSettled (and_then t (retire_calls area t))
 retire_settles area t = settled-sync t (Cut area (min 16 (length (area_bytes area t))) ∷ Sync ∷ Write area 0 (0 ∷ []) ∷ [])
 
+-- and the area is what founding asks
+pub retire_retires : (area : Area) (t : Told) → IsRetired (area_bytes area (and_then t (retire_calls area t)))
+retire_retires area t =
+    let f = area_bytes area t in
+    let x = take (min 16 (length f)) f in
+    let e = area_bytes-and_then area t (retire_calls area t) ∙ ap (after f) (own-on area (retire_steps (length f))) in
+    let size = retired_size f (area_bytes area (and_then t (retire_calls area t))) e in
+    record {
+      some = size.1;
+      short = size.0;
+      shut = λ one. let never : 0 ≡ 1 = sym (ap (λ (g : List ℕ). get_or g 0 0) e) ∙ one in absurd (omega arith);
+    }
+
 found_pair : (t : Told) (area : Area) (body : List ℕ) (image : Areas) → length (area_bytes area t) ≤ 16 → 0 < length (area_bytes area t)
     → OthersStay area (reads t) image → OpenOrShut 0 body (area_bytes area t) (bytes_of area image) → IsFoundable area (length body) (reads t)
     → StandsAsEither (pair_of area) (reads t) (reads (and_then t (gate_calls area 0 body))) image
@@ -109,17 +122,17 @@ found_pair t Check3 body image short some others file why =
     beside_second Check f image.check3 h s image.check2 (area_bytes Check2 (and_then t calls)) (others Check2 refl) (area_bytes-and_then Check2 t calls) (found_second Check body f image.check3 h s short some whole file)
 
 -- at each moment of founding
-pub found_leaves : (t : Told) (area : Area) (body : List ℕ) → IsSettled t → length (area_bytes area t) ≤ 16 → 0 < length (area_bytes area t) → get_or (area_bytes area t) 0 0 ≢ 1
+pub found_leaves : (t : Told) (area : Area) (body : List ℕ) → IsSettled t → IsRetired (area_bytes area t)
     → (i : ℕ) (image : Areas) → IsImage (and_then t (take i (gate_calls area 0 body))) image
     → FoundLeaves area body (reads t) (reads (and_then t (gate_calls area 0 body))) image
-found_leaves t area body settled short some shut i image is =
+found_leaves t area body settled retired i image is =
     let steps = gate_steps 0 body in
     let others : OthersStay area (reads t) image = λ b other. image-other t b area steps i image other settled is ∙ sym (reads-bytes t b) in
-    let file = found_file 0 body (area_bytes area t) (bytes_of area image) i some shut (image-on t area steps i image settled is) in
+    let file = found_file 0 body (area_bytes area t) (bytes_of area image) i retired.some retired.shut (image-on t area steps i image settled is) in
     record {
       others = others;
       file = subst (λ (f : List ℕ). OpenOrShut 0 body f (bytes_of area image)) (sym (reads-bytes t area)) file;
-      pair = found_pair t area body image short some others file;
+      pair = found_pair t area body image retired.short retired.some others file;
     }
 
 pub gate_settles : (area : Area) (gate : ℕ) (body : List ℕ) (t : Told) → IsSettled (and_then t (gate_calls area gate body))

@@ -34,12 +34,12 @@ cut_is area (Some t) honesty n m j honest cut size =
     let told : n ≡ length (area_bytes area t) = size t (record { honest = honest; told = refl }) in
     ap (λ k. Some (and_then t (take j (Cut area k ∷ Sync ∷ Write area 0 (0 ∷ []) ∷ Sync ∷ [])))) (let e : m ≡ min 16 (length (area_bytes area t)) = omega arith in e)
 
--- once all of some calls are made that end with a sync, nothing is pending
-pub done_by : {T E : Type 0} (result : Result T E) (honest honest' : Bool) (old now : Option Told) (calls : Told → List Call)
+-- once all of some calls are made, what these calls bring about is so
+pub done_by : {T E : Type 0} (P : Told → Type 0) (result : Result T E) (honest honest' : Bool) (old now : Option Told) (calls : Told → List Call)
     → OnOk result (Makes honest old now calls) → honest' ≡ honest
-    → ((t : Told) → IsSettled (and_then t (calls t)))
-    → (u : Told) → Tells now honest' u → OnOk result (IsSettled u)
-done_by (Err e) honest honest' old now calls made same settles u tells = tt
-done_by (Ok v) honest honest' old now calls made same settles u tells =
+    → ((t : Told) → P (and_then t (calls t)))
+    → (u : Told) → Tells now honest' u → OnOk result (P u)
+done_by P (Err e) honest honest' old now calls made same settles u tells = tt
+done_by P (Ok v) honest honest' old now calls made same settles u tells =
     let before = told_before old now calls u (made (sym same ∙ tells.honest)) tells.told in
-    subst IsSettled (sym before.2) (settles before.0)
+    subst P (sym before.2) (settles before.0)

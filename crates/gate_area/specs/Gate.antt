@@ -11,6 +11,12 @@ use Rattle.gate_area.specs.declared.pair.Pair.TheVariants.{Journal, Check}
 use Rattle.gate_area.specs.declared.pair.Head.TheVariants.{Closed}
 use Rattle.gate_area.specs.Standing.{pair_of, first_of, second_of, stands, head_of}
 
+-- what retiring leaves of a file when it is done: 1 to 16 bytes of which the first isn't 1
+pub record IsRetired (file : List ℕ) : Type 0 where
+  pub some : 0 < length file
+  pub short : length file ≤ 16
+  pub shut : slice_index file 0 ≢ 1
+
 -- cut to at most 16 bytes, keep, close the gate, keep
 abbrev pub retire_steps : ℕ → List Step
 retire_steps len = Shrink (min 16 len) ∷ Flush ∷ Put 0 (0 ∷ []) ∷ Flush ∷ []

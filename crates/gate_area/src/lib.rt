@@ -9,5 +9,5 @@ pub use looking::survey;
 pub use pair::{Head, Pair, Standing, SurveyFault};
 pub use steps::{found, open_gate, retire};
 
-//#[cfg(test)]
-//mod tests;
+#[cfg(test)]
+mod tests;

@@ -1,8 +1,8 @@
 // Closing and opening the gate of an area.
-ghost use Rattle.std.specs.Prelude.{◌≡◌, ◌≢◌, ◌≤◌, ◌<◌, ◌+◌, ◌-◌, ◌^◌, length, slice_index, OnOk};
+ghost use Rattle.std.specs.Prelude.{◌≡◌, ◌≤◌, ◌<◌, ◌-◌, ◌^◌, length, OnOk};
 ghost use Rattle.disk_model.specs.Calls.{Told, Tells, Makes, MakesFirst, LeavesOnly, IsSettled, and_then, area_bytes, reads};
 ghost use Rattle.disk_model.specs.Causes.{Causes};
-ghost use Rattle.gate_area.specs.Gate.{retire_calls, gate_calls, RetireLeaves, FoundLeaves};
+ghost use Rattle.gate_area.specs.Gate.{IsRetired, retire_calls, gate_calls, RetireLeaves, FoundLeaves};
 
 use disk_model::{Area, Disk, Refused};
 
@@ -16,6 +16,7 @@ pub fn retire<D: Disk>(disk: &mut D, area: Area) -> Result<(), Refused>
     ensures moments { (t : Told) → Tells (D.told disk.old) (D.honest disk.old) t →
         LeavesOnly t (D.told disk.new) (RetireLeaves area (reads t) (reads (and_then t (retire_calls area t)))) }
     ensures done { (t : Told) → Tells (D.told disk.new) (D.honest disk.new) t → OnOk result (IsSettled t) }
+    ensures retired { (t : Told) → Tells (D.told disk.new) (D.honest disk.new) t → OnOk result (IsRetired (area_bytes area t)) }
     ensures honest { D.honest disk.new ≡ D.honest disk.old }
     ensures causes { Causes (D.faults disk.old) (D.faults disk.new) result }
 {
@@ -31,9 +32,9 @@ fn cut_and_close<D: Disk>(disk: &mut D, area: Area) -> Result<(), Refused>
 {
     let len = disk.len(area)?;
     disk.cut(area, len.min(16))?;
-    disk.sync()?;
+    disk.sync()?; // the area is short
     disk.write_at(area, 0, &[0])?;
-    disk.sync()?;
+    disk.sync()?; // its gate is closed
     Ok(())
 }
 
@@ -47,9 +48,9 @@ pub fn open_gate<D: Disk>(disk: &mut D, area: Area, gate: u64, body: &[u8]) -> R
     ensures causes { Causes (D.faults disk.old) (D.faults disk.new) result }
 {
     disk.write_at(area, gate + 1, body)?;
-    disk.sync()?;
+    disk.sync()?; // the body stands
     disk.write_at(area, gate, &[1])?;
-    disk.sync()?;
+    disk.sync()?; // its gate is open
     Ok(())
 }
 
@@ -60,9 +61,7 @@ pub fn open_gate<D: Disk>(disk: &mut D, area: Area, gate: u64, body: &[u8]) -> R
 pub fn found<D: Disk>(disk: &mut D, area: Area, body: &[u8]) -> Result<(), Refused>
     requires settled { (t : Told) → Tells (D.told disk.old) (D.honest disk.old) t → IsSettled t }
     requires body { 16 ≤ length body.now }
-    requires some { (t : Told) → Tells (D.told disk.old) (D.honest disk.old) t → 0 < length (area_bytes area t) }
-    requires short { (t : Told) → Tells (D.told disk.old) (D.honest disk.old) t → length (area_bytes area t) ≤ 16 }
-    requires shut { (t : Told) → Tells (D.told disk.old) (D.honest disk.old) t → slice_index (area_bytes area t) 0 ≢ 1 }
+    requires retired { (t : Told) → Tells (D.told disk.old) (D.honest disk.old) t → IsRetired (area_bytes area t) }
     ensures calls { OnOk result (Makes (D.honest disk.old) (D.told disk.old) (D.told disk.new) (λ t. gate_calls area 0 body.now)) }
     ensures some { MakesFirst (D.honest disk.old) (D.told disk.old) (D.told disk.new) (λ t. gate_calls area 0 body.now) }
     ensures moments { (t : Told) → Tells (D.told disk.old) (D.honest disk.old) t →
