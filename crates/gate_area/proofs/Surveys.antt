@@ -1,11 +1,12 @@
 -- What a survey finds, from what its reads gave.
-use Rattle.std.proofs.Common.{◌≡◌, ℕ, ◌+◌, ◌≤◌, ◌⊎◌, inl, inr, min, cond, List, length, take, Result, Ok, Err, refl, ap, sym, ◌∙◌, subst, arith}
+use Rattle.std.proofs.Common.{◌≡◌, ℕ, ◌+◌, ◌≤◌, ◌⊎◌, inl, inr, min, cond, List, length, take, Option, Some, Result, Ok, Err, refl, ap, sym, ◌∙◌, subst, arith}
 use Rattle.std.proofs.lemmas.Bool.{le-leb}
 use Rattle.std.proofs.lemmas.List.{take-take}
 use Rattle.disk_model.specs.declared.area.Area.{Area}
 use Rattle.disk_model.specs.Areas.{bytes_of}
 use Rattle.disk_model.specs.Calls.{Told, area_bytes, reads}
-use Rattle.disk_model.specs.Causes.{GivesBytes}
+use Rattle.disk_model.specs.Causes.{GivesBytes, read_passed}
+use Rattle.disk_model.specs.declared.plan.Plan.{Plan}
 use Rattle.disk_model.proofs.Reading.{reads-bytes}
 use Rattle.gate_area.specs.declared.looking.Look.{Look}
 use Rattle.gate_area.specs.declared.pair.Head.{Head}
@@ -13,7 +14,7 @@ use Rattle.gate_area.specs.declared.pair.Head.TheVariants.{Closed}
 use Rattle.gate_area.specs.declared.pair.Pair.{Pair}
 use Rattle.gate_area.specs.declared.pair.Standing.{Standing}
 use Rattle.gate_area.specs.declared.pair.SurveyFault.{SurveyFault}
-use Rattle.gate_area.specs.Standing.{first_of, second_of, head_in, head_of, judged, answer_at, answer_of, Answers, IsLook}
+use Rattle.gate_area.specs.Standing.{first_of, second_of, head_in, head_of, judged, answer_at, answer_of, Answers, ReadsTwice, IsLook}
 
 -- 17 bytes were read
 pub seen : (pair : Pair) (file into : List ℕ) (n size : ℕ) (head : Head) → GivesBytes file 0 n into → n ≡ 17 → size ≡ length file → head ≡ head_in pair (take 16 into)
@@ -46,3 +47,8 @@ surveyed pair t a b x y result ea eb lx ly is =
     ∙ ap (λ h. answer_at pair (length f) (length s) (judged pair (length f) (length s) h y.head)) (lx.head ∙ ap (head_of pair) ef)
     ∙ ap (λ h. answer_at pair (length f) (length s) (judged pair (length f) (length s) (head_of pair f) h)) (ly.head ∙ ap (head_of pair) es) in
     subst (Answers (answer_of pair (reads t))) (sym e) (answers_itself (answer_of pair (reads t)))
+
+-- both reads have passed, whatever the answer
+pub both_passed : (p : Plan) (now : Option Plan) (result : Result Standing SurveyFault) → now ≡ Some (read_passed (read_passed p)) → ReadsTwice p now result
+both_passed p now (Ok s) e = e
+both_passed p now (Err fault) e = inr (inr e)

@@ -7,7 +7,8 @@ use Rattle.disk_model.specs.declared.area.Refused.{Refused}
 use Rattle.disk_model.specs.declared.area.Refused.TheVariants.{Failed, Memory}
 use Rattle.disk_model.specs.declared.areas.Areas.{Areas}
 use Rattle.disk_model.specs.Areas.{bytes_of, same}
-use Rattle.disk_model.specs.Causes.{Rose}
+use Rattle.disk_model.specs.Causes.{Rose, read_passed}
+use Rattle.disk_model.specs.declared.plan.Plan.{Plan}
 use Rattle.gate_area.specs.declared.pair.Head.{Head}
 use Rattle.gate_area.specs.declared.pair.Head.TheVariants.{Closed, Spoilt, Open}
 use Rattle.gate_area.specs.declared.looking.Look.{Look}
@@ -117,7 +118,13 @@ Answers expected result = MatchResult result (λ s. expected ≡ Ok s) (λ fault
 pub record SurveyCauses (before now : ℕ) (result : Result Standing SurveyFault) : Type 0 where
   pub later : before ≤ now
   pub disk : IsErrOf result Disk → Rose before now
+  pub damaged : (area : Area) (at : ℕ) → IsErrOf result (Damaged area at) → now ≡ before
   pub kept : OnOk result (now ≡ before)
+
+-- a survey makes two reads; a plan of faults that the disk tells has then let both pass
+abbrev pub ReadsTwice : Plan → Option Plan → Result Standing SurveyFault → Type 0
+ReadsTwice p now result = MatchResult result (λ _. now ≡ Some (read_passed (read_passed p)))
+    (λ fault. (fault ≡ Disk) ⊎ ((fault ≡ NoMemory) ⊎ (now ≡ Some (read_passed (read_passed p)))))
 
 -- the pair of an area
 abbrev pub pair_of : Area → Pair
