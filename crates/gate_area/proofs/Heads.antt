@@ -1,15 +1,14 @@
 -- What an image of one area of a pair makes of what the pair stands for.
-use Rattle.std.proofs.Common.{◌≡◌, ◌≢◌, ℕ, ◌+◌, ◌<◌, ◌≤◌, ◌⊎◌, inl, inr, Bool, true, false, cond, not, ◌&&◌, nat_eq, nat_le, nat_lt, List, [], ◌∷◌, length, take, get_or, Option, None, Some, Result, Ok, Err, refl, ap, sym, ◌∙◌, arith}
+use Rattle.std.proofs.Common.{◌≡◌, ◌≢◌, ℕ, ◌<◌, ◌≤◌, ◌⊎◌, inl, inr, Bool, true, false, cond, not, ◌&&◌, nat_eq, nat_le, nat_lt, List, length, take, get_or, None, Ok, Err, refl, ap, sym, ◌∙◌, arith}
 use Rattle.std.proofs.lemmas.Bool.{cases_lt, le-leb, lt-leb}
 use Rattle.std.proofs.lemmas.Bool.Decides.{eqb_tells}
 use Rattle.std.proofs.lemmas.List.{get_or-take}
-use Rattle.disk_model.specs.declared.area.Area.{Area}
 use Rattle.gate_area.specs.declared.pair.Pair.{Pair}
-use Rattle.gate_area.specs.declared.pair.Pair.TheVariants.{Journal, Check}
+use Rattle.gate_area.specs.declared.pair.Pair.TheVariants.{Check}
 use Rattle.gate_area.specs.declared.pair.Head.{Head}
 use Rattle.gate_area.specs.declared.pair.Head.TheVariants.{Closed, Spoilt, Open}
-use Rattle.gate_area.specs.Gate.{IsShut, HasFront, IsShort, FrontOrShort, OpenOrShut, opened}
-use Rattle.gate_area.specs.Standing.{head_in, head_of, judged, standing, first_of, second_of, is_journal, has_magic, has_version, generation_of}
+use Rattle.gate_area.specs.Gate.{IsShut, HasFront, FrontOrShort, OpenOrShut, opened}
+use Rattle.gate_area.specs.Standing.{head_in, head_of, judged, standing, first_of, is_journal, has_magic, has_version, generation_of}
 
 pub head-short : (pair : Pair) (file : List ℕ) → length file ≤ 16 → head_of pair file ≡ Closed
 head-short pair file short = ap (λ b. cond b (head_in pair (take 16 file)) Closed) (lt-leb 17 (length file) (omega arith))

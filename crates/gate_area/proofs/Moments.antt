@@ -1,12 +1,12 @@
 -- What a crash leaves at each moment while an area is retired or founded.
-use Rattle.std.proofs.Common.{◌≡◌, ◌≢◌, ℕ, ◌+◌, ◌-◌, ◌<◌, ◌≤◌, min, max, ◌⊎◌, inl, inr, Bool, true, false, List, [], ◌∷◌, ◌++◌, length, take, get_or, zero, suc, refl, ap, sym, ◌∙◌, subst, arith, length-take, length-append}
+use Rattle.std.proofs.Common.{◌≡◌, ◌≢◌, ℕ, ◌+◌, ◌-◌, ◌<◌, ◌≤◌, min, inl, inr, List, [], ◌∷◌, length, take, get_or, zero, suc, refl, ap, sym, ◌∙◌, subst, arith, length-take}
 use Rattle.std.proofs.lemmas.Bool.{cases_lt}
 use Rattle.std.proofs.lemmas.Bool.Decides.{eqb_tells}
 use Rattle.std.proofs.lemmas.List.{ext_get_or, get_or-take}
-use Rattle.disk_model.specs.Steps.{Step, Put, Shrink, Flush, Kept, CanLeave, steps_on, written}
+use Rattle.disk_model.specs.Steps.{Step, Put, Shrink, Flush, CanLeave, steps_on, written}
 use Rattle.disk_model.proofs.Bytes.{length-written, written-before, written-inside, written-behind}
 use Rattle.disk_model.proofs.OnArea.{only_image}
-use Rattle.gate_area.specs.Gate.{retire_steps, gate_steps, opened, IsShut, OpenOrShut, HasFront, IsShort, FrontOrShort}
+use Rattle.gate_area.specs.Gate.{retire_steps, gate_steps, opened, OpenOrShut, FrontOrShort}
 
 take_none : (i : ℕ) → take i (let none : List Step = [] in none) ≡ []
 take_none zero = refl

@@ -1,20 +1,19 @@
 -- What a crash leaves of a disk at each moment while an area is retired or founded.
-use Rattle.std.proofs.Common.{◌≡◌, ◌≢◌, ℕ, ◌+◌, ◌<◌, ◌≤◌, min, ◌⊎◌, inl, inr, Bool, true, false, List, [], ◌∷◌, ◌++◌, length, take, get_or, refl, ap, sym, ◌∙◌, subst, arith, length-take}
+use Rattle.std.proofs.Common.{◌≡◌, ◌≢◌, ℕ, ◌+◌, ◌<◌, ◌≤◌, min, ◌⊎◌, inl, inr, List, [], ◌∷◌, length, take, get_or, refl, ap, sym, ◌∙◌, subst, arith, length-take}
 use Rattle.disk_model.specs.declared.area.Area.{Area}
 use Rattle.disk_model.specs.declared.area.Area.TheVariants.{Journal0, Journal1, Check2, Check3}
 use Rattle.disk_model.specs.declared.areas.Areas.{Areas}
 use Rattle.disk_model.specs.declared.call.Call.TheVariants.{Write, Cut, Sync}
-use Rattle.disk_model.specs.Areas.{bytes_of, same}
+use Rattle.disk_model.specs.Areas.{bytes_of}
 use Rattle.disk_model.specs.Calls.{Told, and_then, area_bytes, reads, IsImage, IsSettled}
 use Rattle.disk_model.specs.Steps.{written, after}
 use Rattle.disk_model.proofs.Bytes.{length-written}
 use Rattle.disk_model.proofs.OnArea.{own-on, image-on, image-other, settled-sync}
 use Rattle.disk_model.proofs.Reading.{area_bytes-and_then, reads-bytes}
-use Rattle.gate_area.specs.declared.pair.Pair.{Pair}
 use Rattle.gate_area.specs.declared.pair.Pair.TheVariants.{Journal, Check}
 use Rattle.gate_area.specs.declared.pair.Head.TheVariants.{Closed}
 use Rattle.gate_area.specs.Gate.{IsRetired, retire_steps, retire_calls, gate_steps, gate_calls, opened, OpenOrShut, FrontOrShort, OthersStay, StandsAsEither, RetireLeaves, FoundLeaves, IsFoundable}
-use Rattle.gate_area.specs.Standing.{pair_of, second_of, head_of}
+use Rattle.gate_area.specs.Standing.{pair_of, head_of}
 use Rattle.gate_area.proofs.Heads.{retire_first, retire_second, found_first, found_second, beside_first, beside_second}
 use Rattle.gate_area.proofs.Moments.{retire_file, found_file}
 

@@ -1,10 +1,10 @@
 -- Where the calls of a gate find their place.
-use Rattle.std.proofs.Common.{◌≡◌, ℕ, ◌+◌, ◌<◌, ◌≤◌, min, Bool, true, List, [], ◌∷◌, ◌++◌, length, take, Option, None, Some, Result, Ok, Err, OnOk, refl, ap, sym, ◌∙◌, arith, subst}
+use Rattle.std.proofs.Common.{◌≡◌, ℕ, ◌+◌, ◌<◌, ◌≤◌, min, Bool, true, List, [], ◌∷◌, length, take, Option, None, Some, Result, Ok, Err, OnOk, refl, ap, sym, ◌∙◌, arith, subst}
 use Rattle.disk_model.specs.declared.area.Area.{Area}
 use Rattle.disk_model.specs.declared.call.Call.{Call}
 use Rattle.disk_model.specs.declared.call.Call.TheVariants.{Write, Cut, Sync}
-use Rattle.disk_model.specs.Calls.{Told, Tells, and_then, followed, made_by, Makes, IsSettled, area_bytes, on, own}
-use Rattle.disk_model.specs.Steps.{Put, Shrink, Flush, written, after}
+use Rattle.disk_model.specs.Calls.{Told, Tells, and_then, followed, made_by, Makes, area_bytes}
+use Rattle.disk_model.specs.Steps.{Put, Flush, after}
 use Rattle.disk_model.proofs.Bytes.{length-written}
 use Rattle.disk_model.proofs.OnArea.{own-on}
 use Rattle.disk_model.proofs.Reading.{area_bytes-and_then}

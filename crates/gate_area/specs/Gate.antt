@@ -1,15 +1,15 @@
 -- The steps that close and open the gate of an area, and what they leave of it at each moment.
-use Rattle.std.specs.Prelude.{◌≡◌, ◌≢◌, ◌⊎◌, ℕ, ◌+◌, ◌<◌, ◌≤◌, min, max, Bool, true, false, List, [], ◌∷◌, ◌++◌, length, take, drop, slice_index, Result}
+use Rattle.std.specs.Prelude.{◌≡◌, ◌≢◌, ◌⊎◌, ℕ, ◌+◌, ◌<◌, ◌≤◌, min, max, false, List, [], ◌∷◌, length, take, slice_index}
 use Rattle.disk_model.specs.declared.area.Area.{Area}
 use Rattle.disk_model.specs.declared.areas.Areas.{Areas}
 use Rattle.disk_model.specs.declared.call.Call.{Call}
 use Rattle.disk_model.specs.Areas.{bytes_of, same}
-use Rattle.disk_model.specs.Calls.{Told, and_then, on, area_bytes, reads}
+use Rattle.disk_model.specs.Calls.{Told, on, area_bytes}
 use Rattle.disk_model.specs.Steps.{Step, Put, Shrink, Flush, written}
 use Rattle.gate_area.specs.declared.pair.Pair.{Pair}
-use Rattle.gate_area.specs.declared.pair.Pair.TheVariants.{Journal, Check}
+use Rattle.gate_area.specs.declared.pair.Pair.TheVariants.{Check}
 use Rattle.gate_area.specs.declared.pair.Head.TheVariants.{Closed}
-use Rattle.gate_area.specs.Standing.{pair_of, first_of, second_of, stands, head_of}
+use Rattle.gate_area.specs.Standing.{pair_of, second_of, stands, head_of}
 
 -- what retiring leaves of a file when it is done: 1 to 16 bytes of which the first isn't 1
 pub record IsRetired (file : List ℕ) : Type 0 where

@@ -3,6 +3,7 @@
 
 mod looking;
 mod pair;
+pub mod rows;
 mod steps;
 
 pub use looking::survey;

@@ -206,3 +206,63 @@ fn a_read_that_fails(rt: HostRuntime) -> Result<(), Fail> {
     assert_eq!(rt; survey(&mut disk, Pair::Check), Ok(Standing::None));
     Ok(())
 }
+
+// A disk in memory that notes the first two reads: of which area, from where, and of how many bytes.
+#[derive(Drop)]
+struct Noting {
+    disk: SimDisk,
+    reads: [(u8, u64, usize); 2],
+    count: usize,
+}
+
+impl Disk for Noting {
+    ghost told = { λ d. ⟦<SimDisk as Disk>⟧.told d.disk };
+
+    ghost honest = { λ d. ⟦<SimDisk as Disk>⟧.honest d.disk };
+
+    ghost plan = { λ d. ⟦<SimDisk as Disk>⟧.plan d.disk };
+
+    ghost faults = { λ d. ⟦<SimDisk as Disk>⟧.faults d.disk };
+
+    fn len(&mut self, area: Area) -> Result<u64, Refused> {
+        self.disk.len(area)
+    }
+
+    fn read(&mut self, area: Area, at: u64, into: &mut [u8]) -> Result<usize, Refused> {
+        if self.count < 2 {
+            self.reads[self.count] = (area.number(), at, into.len());
+        }
+        self.count = self.count.saturating_add(1);
+        self.disk.read(area, at, into)
+    }
+
+    fn write_at(&mut self, area: Area, at: u64, from: &[u8]) -> Result<(), Refused> {
+        self.disk.write_at(area, at, from)
+    }
+
+    fn cut(&mut self, area: Area, len: u64) -> Result<(), Refused> {
+        self.disk.cut(area, len)
+    }
+
+    fn sync(&mut self) -> Result<(), Refused> {
+        self.disk.sync()
+    }
+}
+
+#[test]
+fn the_reads_of_a_survey(rt: HostRuntime) -> Result<(), Fail> {
+    for (pair, reads) in [
+        (Pair::Journal, [(0, 0, 17), (1, 0, 17)]),
+        (Pair::Check, [(2, 0, 17), (3, 0, 17)]),
+    ] {
+        let mut disk = Noting {
+            disk: SimDisk::empty(rt.alloc()),
+            reads: [(9, 9, 9); 2],
+            count: 0,
+        };
+        let _ = survey(&mut disk, pair);
+        assert_eq!(rt; disk.count, 2);
+        assert_eq!(rt; disk.reads, reads);
+    }
+    Ok(())
+}

@@ -1,4 +1,4 @@
-use Rattle.std.proofs.Common.{◌≡◌, ◌+◌, [], ◌∷◌, ◌∙◌}
+use Rattle.std.proofs.Common.{[], ◌∷◌, ◌∙◌}
 use Rattle.disk_model.specs.declared.call.Call.TheVariants.{Write, Cut, Sync}
 use Rattle.disk_model.proofs.Telling.{goes_on, begins}
 use Rattle.gate_area.proofs.Placing.{cut_is}

@@ -1,5 +1,5 @@
-use Rattle.std.proofs.Common.{◌≡◌, ◌+◌, [], ◌∷◌, ◌∙◌}
-use Rattle.disk_model.specs.declared.call.Call.TheVariants.{Write, Cut, Sync}
+use Rattle.std.proofs.Common.{◌+◌, [], ◌∷◌, ◌∙◌}
+use Rattle.disk_model.specs.declared.call.Call.TheVariants.{Write, Sync}
 use Rattle.disk_model.proofs.Telling.{goes_on, made_plain}
 use Rattle.gate_area.proofs.Placing.{still_within}
 use Rattle.gate_area.proofs.steps.open_gate.Goals as goal
