@@ -1,8 +1,8 @@
 -- The images that a disk in memory leaves are images.
-use Rattle.std.proofs.Common.{◌≡◌, ℕ, ◌+◌, ◌-◌, ◌<◌, ◌≤◌, min, max, Bool, true, false, ◌||◌, ◌&&◌, nat_le, nat_lt, cond, List, [], ◌∷◌, ◌++◌, length, take, drop, get_or, zero, suc, refl, ap, sym, ◌∙◌, ◌⊎◌, inl, inr, arith, append_assoc, length-take, length-append, subst}
+use Rattle.std.proofs.Common.{◌≡◌, ℕ, ◌+◌, ◌-◌, ◌<◌, ◌≤◌, Bool, true, false, ◌||◌, ◌&&◌, nat_le, nat_lt, cond, List, [], ◌∷◌, ◌++◌, length, take, drop, get_or, zero, suc, refl, ap, sym, ◌∙◌, inl, inr, arith, append_assoc, length-take, length-append}
 use Rattle.std.proofs.lemmas.Grind.{get_or_default_zero}
-use Rattle.std.proofs.lemmas.Bool.{cases_lt, le-leb, lt-leb}
-use Rattle.std.proofs.lemmas.List.{append-nil, take-append-drop, get_or-take, get_or_append_left, get_or-append_right, get_or_past}
+use Rattle.std.proofs.lemmas.Bool.{cases_lt, lt-leb}
+use Rattle.std.proofs.lemmas.List.{append-nil, take-append-drop, get_or-take, get_or_append_left, get_or-append_right}
 use Rattle.std.specs.List.{list_any}
 use Rattle.disk_model.specs.declared.area.Area.{Area}
 use Rattle.disk_model.specs.declared.area.Area.TheVariants.{Journal0, Journal1, Check2, Check3}
@@ -14,9 +14,9 @@ use Rattle.disk_model.specs.declared.call.Call.TheVariants.{Write, Cut, Sync}
 use Rattle.disk_model.specs.Areas.{bytes_of, same}
 use Rattle.disk_model.specs.Calls.{Told, own, kept, IsImage}
 use Rattle.disk_model.specs.Crash.{covers, is_dirty, dirty_before, filled_byte, filled_below, left_of, left_by, NoSync, IsLastSync}
-use Rattle.disk_model.specs.Steps.{Step, Put, Shrink, Flush, Kept, Spares, AllSpare, MayLeave, CanLeave, after, changed, least, most, written, step_on, steps_on, reading}
+use Rattle.disk_model.specs.Steps.{Step, Put, Shrink, Flush, Kept, Spares, AllSpare, CanLeave, after, changed, least, most, steps_on, reading}
 use Rattle.disk_model.proofs.Bytes.{written-before, written-behind}
-use Rattle.disk_model.proofs.OwnSteps.{own-append, own-cons, after-append, steps_on-append, least-bound, most-bound}
+use Rattle.disk_model.proofs.OwnSteps.{own-append, after-append, steps_on-append, least-bound, most-bound}
 use Rattle.disk_model.proofs.Reading.{reading-steps}
 
 -- a byte that a step spares stays, while it stands below the lengths before and after

@@ -1,17 +1,17 @@
 -- Calls on one area of a disk on which nothing is pending: what is then known of each area, and what a crash
 -- may leave of it, at each moment.
-use Rattle.std.proofs.Common.{◌≡◌, ℕ, ◌+◌, ◌<◌, ◌≤◌, Bool, true, false, cond, List, [], ◌∷◌, ◌++◌, length, take, get_or, zero, suc, refl, ap, sym, ◌∙◌, arith, subst}
-use Rattle.std.proofs.lemmas.List.{ext_get_or, append-nil}
+use Rattle.std.proofs.Common.{◌≡◌, ℕ, true, false, cond, List, [], ◌∷◌, ◌++◌, take, zero, suc, refl, ap, sym, ◌∙◌, arith, subst}
+use Rattle.std.proofs.lemmas.List.{ext_get_or}
 use Rattle.disk_model.specs.declared.area.Area.{Area}
 use Rattle.disk_model.specs.declared.area.Area.TheVariants.{Journal0, Journal1, Check2, Check3}
 use Rattle.disk_model.specs.declared.areas.Areas.{Areas}
 use Rattle.disk_model.specs.declared.call.Call.{Call}
 use Rattle.disk_model.specs.declared.call.Call.TheVariants.{Write, Cut, Sync}
 use Rattle.disk_model.specs.Areas.{bytes_of, same}
-use Rattle.disk_model.specs.Calls.{Told, and_then, own, on, area_bytes, kept, reads, IsImage, IsSettled}
-use Rattle.disk_model.specs.Steps.{Step, Put, Shrink, Flush, Kept, AllSpare, CanLeave, MayLeave, after, steps_on, step_on, reading, least, most}
+use Rattle.disk_model.specs.Calls.{Told, and_then, own, on, area_bytes, kept, IsImage, IsSettled}
+use Rattle.disk_model.specs.Steps.{Step, Put, Shrink, Flush, Kept, CanLeave, after, steps_on}
 use Rattle.disk_model.proofs.OwnSteps.{own-append, steps_on-append}
-use Rattle.disk_model.proofs.Reading.{area_bytes-and_then, kept-and_then, reading-kept, reads-bytes}
+use Rattle.disk_model.proofs.Reading.{kept-and_then, reading-kept}
 
 pub same-self : (area : Area) → same area area ≡ true
 same-self Journal0 = refl
@@ -102,6 +102,6 @@ pub settled-sync : (t : Told) (calls : List Call) → IsSettled (and_then t (cal
 settled-sync t calls area =
     let k = steps_on (kept area t) (own area calls) in
     ap (λ (x : Kept). x.pending)
-      (kept-and_then area t (calls ++ Sync ∷ [])
-      ∙ ap (steps_on (kept area t)) (own-append area calls (Sync ∷ []))
-      ∙ steps_on-append (kept area t) (own area calls) (Flush ∷ []))
+    (kept-and_then area t (calls ++ Sync ∷ [])
+    ∙ ap (steps_on (kept area t)) (own-append area calls (Sync ∷ []))
+    ∙ steps_on-append (kept area t) (own area calls) (Flush ∷ []))

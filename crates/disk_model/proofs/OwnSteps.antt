@@ -1,5 +1,5 @@
 -- The steps of one area among the calls of a disk, one call at a time.
-use Rattle.std.proofs.Common.{◌≡◌, ℕ, ◌+◌, ◌-◌, ◌<◌, ◌≤◌, min, max, Bool, true, false, ◌||◌, cond, List, [], ◌∷◌, ◌++◌, length, refl, ap, sym, ◌∙◌, append_assoc, arith}
+use Rattle.std.proofs.Common.{◌≡◌, ℕ, ◌≤◌, min, max, Bool, true, false, ◌||◌, cond, List, [], ◌∷◌, ◌++◌, length, refl, ap, sym, ◌∙◌, append_assoc, arith}
 use Rattle.std.specs.List.{list_any}
 use Rattle.disk_model.specs.declared.area.Area.{Area}
 use Rattle.disk_model.specs.declared.call.Call.{Call}
@@ -7,7 +7,7 @@ use Rattle.disk_model.specs.declared.call.Call.TheVariants.{Write, Cut, Sync}
 use Rattle.disk_model.specs.Areas.{same}
 use Rattle.disk_model.specs.Calls.{own}
 use Rattle.disk_model.specs.Crash.{covers}
-use Rattle.disk_model.specs.Steps.{Step, Put, Shrink, Flush, Kept, after, changed, least, most, step_on, steps_on, reading}
+use Rattle.disk_model.specs.Steps.{Step, Put, Shrink, Kept, after, changed, least, most, step_on, steps_on}
 
 chosen : (b : Bool) (step : Step) (steps : List Step) → cond b (step ∷ steps) steps ≡ cond b (step ∷ []) [] ++ steps
 chosen true step steps = refl

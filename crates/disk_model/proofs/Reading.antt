@@ -1,16 +1,14 @@
 -- What reads give after further calls, and what is known of an area then.
-use Rattle.std.proofs.Common.{◌≡◌, ℕ, List, [], ◌∷◌, ◌++◌, take, drop, refl, ap, sym, ◌∙◌, ◌⊎◌, inl, inr, append_assoc}
-use Rattle.std.proofs.lemmas.List.{append-nil, take-append-drop}
+use Rattle.std.proofs.Common.{◌≡◌, ℕ, List, [], ◌∷◌, ◌++◌, take, refl, ap, sym, ◌∙◌}
 use Rattle.disk_model.specs.declared.area.Area.{Area}
 use Rattle.disk_model.specs.declared.area.Area.TheVariants.{Journal0, Journal1, Check2, Check3}
 use Rattle.disk_model.specs.declared.areas.Areas.{Areas}
 use Rattle.disk_model.specs.declared.call.Call.{Call}
 use Rattle.disk_model.specs.declared.call.Call.TheVariants.{Write, Cut, Sync}
-use Rattle.disk_model.specs.Areas.{bytes_of, with_bytes, same}
+use Rattle.disk_model.specs.Areas.{bytes_of, with_bytes}
 use Rattle.disk_model.specs.Calls.{Told, and_then, own, area_bytes, reads, kept}
-use Rattle.disk_model.specs.Crash.{NoSync, IsLastSync}
 use Rattle.disk_model.specs.Steps.{Step, Put, Shrink, Flush, Kept, after, changed, written, step_on, steps_on, reading}
-use Rattle.disk_model.proofs.OwnSteps.{own-append, own-cons, after-append, steps_on-append}
+use Rattle.disk_model.proofs.OwnSteps.{own-append, after-append, steps_on-append}
 
 -- after further calls a read of an area gives what their steps make of it
 pub area_bytes-and_then : (area : Area) (t : Told) (calls : List Call) → area_bytes area (and_then t calls) ≡ after (area_bytes area t) (own area calls)

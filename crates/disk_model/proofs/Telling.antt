@@ -1,10 +1,10 @@
 -- What a disk tells, from one call to the next.
-use Rattle.std.proofs.Common.{◌≡◌, ℕ, Bool, true, List, [], ◌∷◌, ◌++◌, take, Option, None, Some, refl, ap, sym, ◌∙◌, append_assoc, ◌⊎◌, inl, inr, length-take, arith, subst}
+use Rattle.std.proofs.Common.{◌≡◌, ℕ, Bool, List, [], ◌++◌, take, Option, None, Some, refl, ap, sym, ◌∙◌, append_assoc, inl, inr, length-take, arith, subst}
 use Rattle.std.proofs.lemmas.Bool.{cases_lt}
 use Rattle.std.proofs.lemmas.List.{append-nil, take_all, take-take}
 use Rattle.disk_model.specs.declared.areas.Areas.{Areas}
 use Rattle.disk_model.specs.declared.call.Call.{Call}
-use Rattle.disk_model.specs.Calls.{Told, Tells, and_then, followed, made_by, Makes, MakesFirst, LeavesOnly, IsImage}
+use Rattle.disk_model.specs.Calls.{Told, Tells, and_then, followed, made_by, MakesFirst, LeavesOnly, IsImage}
 
 followed-followed : (o : Option Told) (xs ys : List Call) → followed (followed o xs) ys ≡ followed o (xs ++ ys)
 followed-followed None xs ys = refl
@@ -35,8 +35,9 @@ told_before (Some t) p calls u made tells = (t, refl, cc (sym tells ∙ made))
 -- the first of the first are the first of all
 take_twice : (i j : ℕ) (calls : List Call) → (k : ℕ) × (take i (take j calls) ≡ take k calls)
 take_twice i j calls = elim (cases_lt j i) [
-    inl more ↦ (j, take_all i (take j calls) (omega (arith, length-take j calls)))
-  | inr less ↦ (i, take-take i j calls less) ]
+  | inl more ↦ (j, take_all i (take j calls) (omega (arith, length-take j calls)))
+  | inr less ↦ (i, take-take i j calls less)
+]
 
 -- A disk that made the first of some calls was at no moment but between two of them.
 pub leaves_only : (honesty : Bool) (old now : Option Told) (calls : Told → List Call) (t : Told) (P : Areas → Type 0)
@@ -47,6 +48,7 @@ leaves_only honesty old now calls t P tells (j, made) each = record {
   made = take j (calls t);
   told = made tells.honest ∙ ap (made_by (λ u. take j (calls u))) tells.told;
   each = λ i image is.
-    let P : List Call → Type 0 = λ cs. IsImage (and_then t cs) image in
-    let at = take_twice i j (calls t) in
-    each at.0 image (subst P at.1 is) }
+      let P : List Call → Type 0 = λ cs. IsImage (and_then t cs) image in
+      let at = take_twice i j (calls t) in
+      each at.0 image (subst P at.1 is);
+}

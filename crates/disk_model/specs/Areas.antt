@@ -1,5 +1,5 @@
 -- The four areas by their names.
-use Rattle.std.specs.Prelude.{ℕ, List, Bool, true, false, ◌==◌}
+use Rattle.std.specs.Prelude.{ℕ, List, Bool, ◌==◌}
 use Rattle.disk_model.specs.declared.area.Area.{Area}
 use Rattle.disk_model.specs.declared.area.Area.TheVariants.{Journal0, Journal1, Check2, Check3}
 use Rattle.disk_model.specs.declared.areas.Areas.{Areas}

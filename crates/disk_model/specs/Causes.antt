@@ -1,5 +1,5 @@
 -- Why a call of a disk is refused.
-use Rattle.std.specs.Prelude.{◌≡◌, ◌≤◌, ◌<◌, ◌+◌, ◌-◌, ◌^◌, ℕ, List, length, take, drop, min, Bool, true, false, ◌||◌, Option, None, Some, zero, suc, Result, Ok, Err, OnOk, IsErrOf}
+use Rattle.std.specs.Prelude.{◌≡◌, ◌≤◌, ◌+◌, ◌-◌, ◌^◌, ℕ, List, length, take, drop, min, Bool, true, false, ◌||◌, Option, None, Some, zero, suc, Result, Ok, Err, OnOk, IsErrOf}
 use Rattle.disk_model.specs.declared.area.Refused.{Refused}
 use Rattle.disk_model.specs.declared.area.Refused.TheVariants.{Failed, Memory}
 use Rattle.disk_model.specs.declared.plan.Plan.{Plan}

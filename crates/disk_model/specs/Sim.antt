@@ -5,10 +5,9 @@ use Rattle.std.specs.declared.alloc.Global.{Global}
 use Rattle.disk_model.specs.declared.area.Refused.{Refused}
 use Rattle.disk_model.specs.declared.areas.Areas.{Areas}
 use Rattle.disk_model.specs.declared.call.Call.{Call}
-use Rattle.disk_model.specs.declared.plan.Plan.{Plan}
 use Rattle.disk_model.specs.declared.plan.Trouble.{Trouble}
 use Rattle.disk_model.specs.Calls.{Told, begun, and_then}
-use Rattle.disk_model.specs.Causes.{no_trouble, by_result, troubled, untroubled, change_passed, change_failed, read_passed, read_failed, len_passed, len_failed}
+use Rattle.disk_model.specs.Causes.{no_trouble, by_result, troubled, untroubled, change_passed, change_failed, read_passed, read_failed, len_failed}
 
 pub record Sim : Type 0 where
   pub told : Told

@@ -1,4 +1,4 @@
-use Rattle.std.proofs.Common.{◌≡◌, ◌≤◌, ◌+◌, ◌∙◌, ap, min, max, [], ◌∷◌, drop, length, sym, arith}
+use Rattle.std.proofs.Common.{◌≡◌, ◌+◌, ◌∙◌, ap, min, max, [], ◌∷◌, drop, length, sym, arith}
 use Rattle.std.proofs.lemmas.List.{drop_more}
 use Rattle.disk_model.specs.Calls.{own}
 use Rattle.disk_model.specs.Steps.{after, least, most}

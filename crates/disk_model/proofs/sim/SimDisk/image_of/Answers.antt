@@ -5,7 +5,7 @@ use Rattle.disk_model.specs.declared.area.Image.TheVariants.{Old, New, Fill}
 use Rattle.disk_model.specs.declared.call.Call.{Call}
 use Rattle.disk_model.specs.Calls.{Told, kept, own}
 use Rattle.disk_model.specs.Crash.{left_of}
-use Rattle.disk_model.specs.Steps.{Kept, after}
+use Rattle.disk_model.specs.Steps.{Kept}
 use Rattle.disk_model.proofs.CrashLaws.{kept_is}
 use Rattle.disk_model.proofs.Reading.{reading-kept}
 use Rattle.disk_model.proofs.sim.SimDisk.image_of.Goals as goal
