@@ -1,0 +1,6 @@
+pub mod Bytes
+pub mod CrashLaws
+pub mod OnArea
+pub mod OwnSteps
+pub mod Reading
+pub mod Telling

@@ -1,0 +1,6 @@
+pub mod Areas
+pub mod Calls
+pub mod Causes
+pub mod Crash
+pub mod Sim
+pub mod Steps

@@ -1,0 +1,54 @@
+-- What a survey finds, from what its reads gave.
+use Rattle.std.proofs.Common.{◌≡◌, ℕ, inr, cond, List, length, take, Option, Some, Result, Ok, Err, refl, ap, sym, ◌∙◌, subst, arith}
+use Rattle.std.proofs.lemmas.Bool.{le-leb}
+use Rattle.std.proofs.lemmas.List.{take-take}
+use Rattle.disk_model.specs.declared.area.Area.{Area}
+use Rattle.disk_model.specs.Areas.{bytes_of}
+use Rattle.disk_model.specs.Calls.{Told, area_bytes, reads}
+use Rattle.disk_model.specs.Causes.{GivesBytes, read_passed}
+use Rattle.disk_model.specs.declared.plan.Plan.{Plan}
+use Rattle.disk_model.proofs.Reading.{reads-bytes}
+use Rattle.gate_area.specs.declared.looking.Look.{Look}
+use Rattle.gate_area.specs.declared.pair.Head.{Head}
+use Rattle.gate_area.specs.declared.pair.Head.TheVariants.{Closed}
+use Rattle.gate_area.specs.declared.pair.Pair.{Pair}
+use Rattle.gate_area.specs.declared.pair.Standing.{Standing}
+use Rattle.gate_area.specs.declared.pair.SurveyFault.{SurveyFault}
+use Rattle.gate_area.specs.Standing.{first_of, second_of, head_in, head_of, judged, answer_at, answer_of, Answers, ReadsTwice, IsLook}
+
+-- 17 bytes were read
+pub seen : (pair : Pair) (file into : List ℕ) (n size : ℕ) (head : Head) → GivesBytes file 0 n into → n ≡ 17 → size ≡ length file → head ≡ head_in pair (take 16 into)
+    → IsLook pair file (record { len = size; head = head })
+seen pair file into n size head gives all long is =
+    let whole : take 17 into ≡ take 17 file = subst (λ k. take k into ≡ take k file) all gives.bytes in
+    let front : take 16 into ≡ take 16 file = sym (take-take 16 17 into (omega arith)) ∙ ap (take 16) whole ∙ take-take 16 17 file (omega arith) in
+    record {
+      len = long;
+      head = is ∙ ap (head_in pair) front ∙ sym (ap (λ b. cond b (head_in pair (take 16 file)) Closed) (le-leb 17 (length file) (omega (arith, gives.count))));
+    }
+
+answers_itself : (expected : Result Standing SurveyFault) → Answers expected expected
+answers_itself (Ok s) = refl
+answers_itself (Err fault) = inr (inr refl)
+
+pub surveyed : (pair : Pair) (t : Told) (a b : Area) (x y : Look) (result : Result Standing SurveyFault)
+    → a ≡ first_of pair → b ≡ second_of pair → IsLook pair (area_bytes a t) x → IsLook pair (area_bytes b t) y
+    → result ≡ answer_at pair x.len y.len (judged pair x.len y.len x.head y.head)
+    → Answers (answer_of pair (reads t)) result
+surveyed pair t a b x y result ea eb lx ly is =
+    let f = bytes_of (first_of pair) (reads t) in
+    let s = bytes_of (second_of pair) (reads t) in
+    let ef : area_bytes a t ≡ f = ap (λ z. area_bytes z t) ea ∙ sym (reads-bytes t (first_of pair)) in
+    let es : area_bytes b t ≡ s = ap (λ z. area_bytes z t) eb ∙ sym (reads-bytes t (second_of pair)) in
+    let e : result ≡ answer_of pair (reads t) =
+    is
+    ∙ ap (λ n. answer_at pair n y.len (judged pair n y.len x.head y.head)) (lx.len ∙ ap length ef)
+    ∙ ap (λ m. answer_at pair (length f) m (judged pair (length f) m x.head y.head)) (ly.len ∙ ap length es)
+    ∙ ap (λ h. answer_at pair (length f) (length s) (judged pair (length f) (length s) h y.head)) (lx.head ∙ ap (head_of pair) ef)
+    ∙ ap (λ h. answer_at pair (length f) (length s) (judged pair (length f) (length s) (head_of pair f) h)) (ly.head ∙ ap (head_of pair) es) in
+    subst (Answers (answer_of pair (reads t))) (sym e) (answers_itself (answer_of pair (reads t)))
+
+-- both reads have passed, whatever the answer
+pub both_passed : (p : Plan) (now : Option Plan) (result : Result Standing SurveyFault) → now ≡ Some (read_passed (read_passed p)) → ReadsTwice p now result
+both_passed p now (Ok s) e = e
+both_passed p now (Err fault) e = inr (inr e)

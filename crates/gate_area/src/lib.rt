@@ -1,0 +1,14 @@
+// The gate steps on a pair of areas: an area counts with its whole body or not at all, at each moment.
+#![tactic(auto)]
+
+mod looking;
+mod pair;
+pub mod rows;
+mod steps;
+
+pub use looking::survey;
+pub use pair::{Head, Pair, Standing, SurveyFault};
+pub use steps::{found, open_gate, retire};
+
+#[cfg(test)]
+mod tests;
