@@ -71,13 +71,13 @@ shown_law A B made back read a b IsA IsB law text is again is_back = record {
 
 -- the fields after a kind give a value whose spelling begins with the kind
 pub kind_was : (A B : Type 0) (made : A → B) (read : Reader A) (a : A → List ℕ) (b : B → List ℕ) (IsA : A → Type 0) (IsB : B → Type 0) →
-    Field A read a IsA → (kind : ℕ) → ((x : A) → b (made x) ≡ kind ∷ a x) → ((x : A) → IsA x → IsB (made x)) →
+    Field A read a IsA → (kind : ℕ) → ((x : A) → IsA x → b (made x) ≡ kind ∷ a x) → ((x : A) → IsA x → IsB (made x)) →
     (first : ℕ) → first ≡ kind → (at behind : ℕ) (rest : List ℕ) (x : B × Spot) → AreBytes rest → shown made read (record { at = behind; rest = rest }) ≡ Ok x →
     Took (record { at = at; rest = first ∷ rest }) (b x.0) x.1 × IsB x.0
 kind_was A B made read a b IsA IsB law kind text is first same at behind rest x are h =
     let p = shown_was A B made read (record { at = behind; rest = rest }) x h in
     let t = law.was (record { at = behind; rest = rest }) p.0 are p.1 in
-    let parts : first ∷ rest ≡ b (made p.0.0) ++ p.0.1.rest = rw (same, text p.0.0) (ap (λ (r : List ℕ). kind ∷ r) t.0.parts) in
+    let parts : first ∷ rest ≡ b (made p.0.0) ++ p.0.1.rest = rw (same, text p.0.0 t.1) (ap (λ (r : List ℕ). kind ∷ r) t.0.parts) in
     subst (λ (y : B × Spot). Took (record { at = at; rest = first ∷ rest }) (b y.0) y.1 × IsB y.0) p.2
     (record { parts = parts; bytes = t.0.bytes }, is p.0.0 t.1)
 
@@ -86,6 +86,15 @@ pub kind_again : (A B : Type 0) (made : A → B) (read : Reader A) (a : A → Li
 kind_again A B made read a IsA law x at tail is =
     let r = law.again x at tail is in
     (r.0, rw r.1 refl)
+
+-- a kind without fields
+pub alone_was : (B : Type 0) (value : B) (b : B → List ℕ) (IsB : B → Type 0) (kind : ℕ) → b value ≡ kind ∷ [] → IsB value →
+    (first : ℕ) → first ≡ kind → (at behind : ℕ) (rest : List ℕ) (x : B × Spot) → AreBytes rest → nothing value (record { at = behind; rest = rest }) ≡ Ok x →
+    Took (record { at = at; rest = first ∷ rest }) (b x.0) x.1 × IsB x.0
+alone_was B value b IsB kind text is first same at behind rest x are h =
+    let parts : first ∷ rest ≡ b value ++ rest = rw (same, text) refl in
+    subst (λ (y : B × Spot). Took (record { at = at; rest = first ∷ rest }) (b y.0) y.1 × IsB y.0) (ok_is (value, record { at = behind; rest = rest }) x h)
+    (record { parts = parts; bytes = are }, is)
 
 -- one of two readers, by a test
 pub chosen : (V : Type 0) (t : Bool) (p q : Result (V × Spot) CodecFault) (x : V × Spot) (P : Type 0) → (if t then p else q) ≡ Ok x → (t ≡ true → p ≡ Ok x → P) → (q ≡ Ok x → P) → P
@@ -98,6 +107,15 @@ chosen V false p q x P h then_is else_is = else_is h
 abbrev pub AllInChain : {S V : Type 0} → (S → V → Type 0) → (V → S) → S → List V → Type 0
 AllInChain Is next asked [] = Unit {0}
 AllInChain Is next asked (v ∷ vs) = Is asked v × AllInChain Is next (next v) vs
+
+-- where nothing is left to ask, each is valid by itself
+pub in_chain : {V : Type 0} (Is : V → Type 0) (vs : List V) → AllByRecursion Is vs → AllInChain {S = ℕ} (λ _. Is) (λ _. 0) 0 vs
+in_chain Is [] each = tt
+in_chain Is (v ∷ vs) each = (each.0, in_chain Is vs each.1)
+
+pub of_chain : {V : Type 0} (Is : V → Type 0) (vs : List V) → AllInChain {S = ℕ} (λ _. Is) (λ _. 0) 0 vs → AllByRecursion Is vs
+of_chain Is [] each = tt
+of_chain Is (v ∷ vs) each = (each.0, of_chain Is vs each.1)
 
 pub chain_was : (S V : Type 0) (read : S → Reader V) (next : V → S) (text : V → List ℕ) (Is : S → V → Type 0) → ((s : S) → Field V (read s) text (Is s)) →
     (count : ℕ) (asked : S) (spot : Spot) (x : List V × Spot) → AreBytes spot.rest → chain read next count asked spot ≡ Ok x →

@@ -92,6 +92,13 @@ byte_law = record {
   again = λ value at tail is. (at + 1, refl);
 }
 
+-- the same where nothing is asked of the byte
+pub any_byte_law : Field ℕ byte_at one_byte (λ n. Unit {0})
+any_byte_law = record {
+  was = λ spot x are h. ((byte_was spot.at spot.rest x are h).0, tt);
+  again = λ value at tail is. (at + 1, refl);
+}
+
 -- ---- so many bytes
 
 bytes_was : (count : ℕ) (spot : Spot) (x : List ℕ × Spot) → AreBytes spot.rest → bytes_at count spot ≡ Ok x → Took spot x.0 x.1 × (length x.0 ≡ count) × AreBytes x.0

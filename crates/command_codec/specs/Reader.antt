@@ -117,6 +117,10 @@ counted count read next asked spot = do
   number ← count spot
   chain read next number.0 asked number.1
 
+-- so many of one kind
+abbrev pub each : {V : Type 0} → Reader V → ℕ → Reader (List V)
+each read count = chain {S = ℕ} (λ _. read) (λ _. 0) count 0
+
 -- a count, and so many of one kind
 abbrev pub many : {V : Type 0} → Reader ℕ → Reader V → Reader (List V)
 many count read = counted {S = ℕ} count (λ _. read) (λ _. 0) 0

@@ -2,18 +2,24 @@
 #![tactic(auto)]
 
 mod batch;
+mod batch_reading;
 mod command;
+mod command_reading;
 mod fault;
 mod lists;
 mod logs;
 mod order;
 pub mod reading;
 mod reply;
+mod reply_reading;
 pub mod writing;
 
 pub use batch::write_batch;
+pub use batch_reading::read_batch;
 pub use command::{Command, write_command};
+pub use command_reading::read_command;
 pub use fault::CodecFault;
 pub use lists::{Entries, LogPositions, TableEntries};
 pub use logs::Logs;
 pub use reply::{LogPosition, Reply, TableEntry, write_reply};
+pub use reply_reading::read_reply;
