@@ -73,12 +73,16 @@ HasNumbers other = Unit {0}
 
 -- ---- joining
 
--- the first that has neither positions nor entries
+-- whether it has neither positions nor entries
+abbrev pub is_other : Reply → Bool
+is_other (Positions positions) = false
+is_other (Entries more entries) = false
+is_other other = true
+
+-- the first of these
 abbrev pub first_other : List Reply → Option Reply
 first_other [] = None
-first_other (Positions positions ∷ parts) = first_other parts
-first_other (Entries more entries ∷ parts) = first_other parts
-first_other (other ∷ parts) = Some other
+first_other (part ∷ parts) = if is_other part then Some part else first_other parts
 
 abbrev pub positions_of : Reply → List LogPosition
 positions_of (Positions positions) = positions
@@ -102,18 +106,25 @@ abbrev pub some_more : List Reply → Bool
 some_more [] = false
 some_more (part ∷ parts) = if has_more part then true else some_more parts
 
--- positions one after another, or entries up to and including the first part that has more
-abbrev pub merged : List Reply → Reply
-merged (Positions positions ∷ parts) = Positions (flat_map positions_of (Positions positions ∷ parts))
-merged parts = Entries (some_more parts) (flat_map entries_of (until_more parts))
+abbrev pub starts_with_positions : List Reply → Bool
+starts_with_positions (Positions positions ∷ parts) = true
+starts_with_positions parts = false
 
-abbrev pub or_merged : Option Reply → List Reply → Reply
-or_merged (Some other) parts = other
-or_merged None parts = merged parts
+-- positions one after another
+abbrev pub positions_reply : List Reply → Reply
+positions_reply parts = Positions (flat_map positions_of parts)
+
+-- entries up to and including the first part that has more
+abbrev pub entries_reply : List Reply → Reply
+entries_reply parts = Entries (some_more parts) (flat_map entries_of (until_more parts))
+
+abbrev pub or_else : Option Reply → Reply → Reply
+or_else (Some other) merged = other
+or_else None merged = merged
 
 -- the first part with neither positions nor entries; else all parts as one
 abbrev pub joined : List Reply → Reply
-joined parts = or_merged (first_other parts) parts
+joined parts = or_else (first_other parts) (if starts_with_positions parts then positions_reply parts else entries_reply parts)
 
 abbrev pub NoEntries : Reply → Type 0
 NoEntries (Entries more entries) = ⊥

@@ -1,9 +1,11 @@
 //! Lists of entries, positions and table entries.
 
-ghost use Rattle.std.specs.Prelude.{◌≡◌, List};
+ghost use Rattle.std.specs.Prelude.{◌≡◌, IfOk};
 
 use crate::{LogPosition, TableEntry};
-use mrp_types::Entry;
+use crate::joining::add_copies;
+use mrp_types::{Entry, Memory};
+use std::alloc::Global;
 use std::marker::Model;
 
 /// The entries of a batch, and contracts see the list of them.
@@ -60,6 +62,15 @@ impl LogPositions {
         LogPositions { items }
     }
 
+    /// Equal positions.
+    pub fn copy(&self, alloc: Global) -> Result<Self, Memory>
+        ensures { IfOk result (λ positions. positions ≡ self.now) }
+    {
+        Ok(LogPositions {
+            items: Vec::from_slice(alloc, &self.items)?,
+        })
+    }
+
     /// The positions in order.
     pub fn items(&self) -> &[LogPosition]
         ensures { result.now ≡ self.now }
@@ -89,6 +100,15 @@ impl TableEntries {
         ensures { result ≡ items.items }
     {
         TableEntries { items }
+    }
+
+    /// Equal entries.
+    pub fn copy(&self, alloc: Global) -> Result<Self, Memory>
+        ensures { IfOk result (λ entries. entries ≡ self.now) }
+    {
+        let mut items = Vec::new(alloc);
+        add_copies(alloc, &mut items, &self.items)?;
+        Ok(TableEntries { items })
     }
 
     /// The entries in order.

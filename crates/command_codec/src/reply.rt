@@ -38,6 +38,17 @@ pub struct TableEntry {
     pub value: Octets,
 }
 
+impl TableEntry {
+    /// An equal entry.
+    pub fn copy(&self, alloc: Global) -> Result<Self, Memory>
+        ensures { IfOk result (λ entry. entry ≡ self.now) }
+    {
+        let key = Octets::from_slice(alloc, self.key.bytes())?;
+        let value = Octets::from_slice(alloc, self.value.bytes())?;
+        Ok(TableEntry { key, value })
+    }
+}
+
 /// What a partition replies to a command.
 #[derive(Debug, Drop)]
 pub enum Reply {
@@ -72,6 +83,26 @@ impl Reply {
             Reply::Value(value) => value.len() <= STORED,
             Reply::Entries { more: _, entries } => are_entries(entries.items()),
             _ => true,
+        }
+    }
+
+    /// An equal reply.
+    pub fn copy(&self, alloc: Global) -> Result<Self, Memory>
+        ensures { IfOk result (λ reply. reply ≡ self.now) }
+    {
+        match self {
+            Reply::Positions(positions) => Ok(Reply::Positions(positions.copy(alloc)?)),
+            Reply::Value(value) => Ok(Reply::Value(Octets::from_slice(alloc, value.bytes())?)),
+            Reply::Trimmed(trim) => Ok(Reply::Trimmed(*trim)),
+            Reply::Absent => Ok(Reply::Absent),
+            Reply::Beyond(length) => Ok(Reply::Beyond(*length)),
+            Reply::Exists => Ok(Reply::Exists),
+            Reply::Done => Ok(Reply::Done),
+            Reply::Entries { more, entries } => Ok(Reply::Entries {
+                more: *more,
+                entries: entries.copy(alloc)?,
+            }),
+            Reply::Limit => Ok(Reply::Limit),
         }
     }
 }
