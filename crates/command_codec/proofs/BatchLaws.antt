@@ -32,10 +32,10 @@ entry_law =
     shown_law (ℕ × (ℕ × List ℕ)) Entry entry_of entry_parts (both byte_at (both (within 1 (2 ^ 63 - 1) (number_at w64)) (string_at 0 4096))) entry_text entry_bytes
     (λ v. Unit {0} × (IsNumber v.1.0 × HasLength 0 4096 v.1.1)) IsEntry
     (both_law ℕ (ℕ × List ℕ) byte_at (both (within 1 (2 ^ 63 - 1) (number_at w64)) (string_at 0 4096)) one_byte numbered_text (λ n. Unit {0}) (λ v. IsNumber v.0 × HasLength 0 4096 v.1)
-        any_byte_law
-        (both_law ℕ (List ℕ) (within 1 (2 ^ 63 - 1) (number_at w64)) (string_at 0 4096) u64_bytes string16 IsNumber (HasLength 0 4096)
-            (within_law 1 (2 ^ 63 - 1) (number_at w64) u64_bytes (λ n. n < 2 ^ 64) (number_law w64 (2 ^ 64) u64_bytes wide64))
-            (string_law 0 4096 (lit< tt))))
+    any_byte_law
+    (both_law ℕ (List ℕ) (within 1 (2 ^ 63 - 1) (number_at w64)) (string_at 0 4096) u64_bytes string16 IsNumber (HasLength 0 4096)
+    (within_law 1 (2 ^ 63 - 1) (number_at w64) u64_bytes (λ n. n < 2 ^ 64) (number_law w64 (2 ^ 64) u64_bytes wide64))
+    (string_law 0 4096 (lit< tt))))
     (λ v. refl)
     (λ v is. record { asked = is.1.0.1; numbered = omega (arith, is.1.0.2); short = is.1.1.1 })
     (λ entry. refl)
@@ -61,9 +61,9 @@ batch_was at [] x are h = absurd (no_byte at x h)
 batch_was at (kind ∷ rest) x are h =
     chosen (List Entry) (kind == 1) _ _ x (WasBatch at (kind ∷ rest) x) h
     (λ is r.
-        let t = entries_law.was (record { at = at + 1; rest = rest }) x (rest_are kind rest are) r in
-        let same : kind ≡ 1 = eqb-true _ _ is in
-        (record { parts = rw same (ap (λ (y : List ℕ). 1 ∷ y) t.0.parts); bytes = t.0.bytes }, record { some = t.1.0.1; few = t.1.0.2; each = of_chain IsEntry x.0 t.1.1 }))
+    let t = entries_law.was (record { at = at + 1; rest = rest }) x (rest_are kind rest are) r in
+    let same : kind ≡ 1 = eqb-true _ _ is in
+    (record { parts = rw same (ap (λ (y : List ℕ). 1 ∷ y) t.0.parts); bytes = t.0.bytes }, record { some = t.1.0.1; few = t.1.0.2; each = of_chain IsEntry x.0 t.1.1 }))
     (λ r. absurd (no_kind at x r))
   where
     no_kind : (at : ℕ) (x : List Entry × Spot) → Err (BadKind at) ≡ Ok x → ⊥

@@ -162,32 +162,32 @@ unfolding command_of_kind append_at multi_at read_log_at trim_log_at get_at scan
 of_kind_was at behind kind rest x are h =
     chosen Command (kind == 1) _ _ x (WasRead at (kind ∷ rest) x) h
     (λ is r. kind_was (LogId × List ℕ) Command (λ v. Append v.0 v.1) (both (log_from 0) stored_at) log_value_text command_bytes (λ v. IsLogFrom 0 v.0 × HasLength 0 2048 v.1) IsWhole append_fields 1
-        (λ v ok. refl) (λ v ok. ((ok.0.1, ok.1.1), tt)) kind (kind_is kind 1 is) at behind rest x are r)
+    (λ v ok. refl) (λ v ok. ((ok.0.1, ok.1.1), tt)) kind (kind_is kind 1 is) at behind rest x are r)
     (λ h. chosen Command (kind == 2) _ _ x (WasRead at (kind ∷ rest) x) h
     (λ is r. kind_was (List LogId × List ℕ) Command (λ v. Multi v.0 v.1) (both logs_at stored_at) logs_value_text command_bytes (λ v. AreCounted v.0 × HasLength 0 2048 v.1) IsWhole multi_fields 2
-        (λ v ok. multi_text v) (λ v ok. (((ok.0.0.1, ok.0.0.2, rising_logs 0 v.0 ok.0.1), ok.1.1), tt)) kind (kind_is kind 2 is) at behind rest x are r)
+    (λ v ok. multi_text v) (λ v ok. (((ok.0.0.1, ok.0.0.2, rising_logs 0 v.0 ok.0.1), ok.1.1), tt)) kind (kind_is kind 2 is) at behind rest x are r)
     (λ h. chosen Command (kind == 3) _ _ x (WasRead at (kind ∷ rest) x) h
     (λ is r. kind_was (LogId × ℕ) Command (λ v. ReadLog v.0 v.1) (both (log_from 0) (number_at w64)) log_position_text command_bytes (λ v. IsLogFrom 0 v.0 × (v.1 < 2 ^ 64)) IsWhole position_fields 3
-        (λ v ok. refl) (λ v ok. (ok.0.1, ok.1)) kind (kind_is kind 3 is) at behind rest x are r)
+    (λ v ok. refl) (λ v ok. (ok.0.1, ok.1)) kind (kind_is kind 3 is) at behind rest x are r)
     (λ h. chosen Command (kind == 4) _ _ x (WasRead at (kind ∷ rest) x) h
     (λ is r. kind_was (LogId × ℕ) Command (λ v. TrimLog v.0 v.1) (both (log_from 0) (number_at w64)) log_position_text command_bytes (λ v. IsLogFrom 0 v.0 × (v.1 < 2 ^ 64)) IsWhole position_fields 4
-        (λ v ok. refl) (λ v ok. (ok.0.1, ok.1)) kind (kind_is kind 4 is) at behind rest x are r)
+    (λ v ok. refl) (λ v ok. (ok.0.1, ok.1)) kind (kind_is kind 4 is) at behind rest x are r)
     (λ h. chosen Command (kind == 5) _ _ x (WasRead at (kind ∷ rest) x) h
     (λ is r. kind_was (List ℕ) Command Get key_at string16 command_bytes IsKey IsWhole key_law 5
-        (λ v ok. refl) (λ v ok. (ok, tt)) kind (kind_is kind 5 is) at behind rest x are r)
+    (λ v ok. refl) (λ v ok. (ok, tt)) kind (kind_is kind 5 is) at behind rest x are r)
     (λ h. chosen Command (kind == 6) _ _ x (WasRead at (kind ∷ rest) x) h
     (λ is r. kind_was (List ℕ × List ℕ) Command (λ v. Scan v.0 v.1) (follow (string_at 0 256) (λ from. string_that 0 256 (ends from))) two_text command_bytes
-        (λ v. HasLength 0 256 v.0 × (HasLength 0 256 v.1 × IsTrue (ends v.0 v.1))) IsWhole scan_fields 6
-        (λ v ok. refl) (λ v ok. ((ok.0.1, ok.1.0.1, in_range v.0 v.1 ok.1.1), tt)) kind (kind_is kind 6 is) at behind rest x are r)
+    (λ v. HasLength 0 256 v.0 × (HasLength 0 256 v.1 × IsTrue (ends v.0 v.1))) IsWhole scan_fields 6
+    (λ v ok. refl) (λ v ok. ((ok.0.1, ok.1.0.1, in_range v.0 v.1 ok.1.1), tt)) kind (kind_is kind 6 is) at behind rest x are r)
     (λ h. chosen Command (kind == 7) _ _ x (WasRead at (kind ∷ rest) x) h
     (λ is r. kind_was (List ℕ × List ℕ) Command (λ v. Update v.0 v.1) (both key_at stored_at) two_text command_bytes (λ v. IsKey v.0 × HasLength 0 2048 v.1) IsWhole stored_fields 7
-        (λ v ok. refl) (λ v ok. ((ok.0, ok.1.1), tt)) kind (kind_is kind 7 is) at behind rest x are r)
+    (λ v ok. refl) (λ v ok. ((ok.0, ok.1.1), tt)) kind (kind_is kind 7 is) at behind rest x are r)
     (λ h. chosen Command (kind == 8) _ _ x (WasRead at (kind ∷ rest) x) h
     (λ is r. kind_was (List ℕ × List ℕ) Command (λ v. Insert v.0 v.1) (both key_at stored_at) two_text command_bytes (λ v. IsKey v.0 × HasLength 0 2048 v.1) IsWhole stored_fields 8
-        (λ v ok. refl) (λ v ok. ((ok.0, ok.1.1), tt)) kind (kind_is kind 8 is) at behind rest x are r)
+    (λ v ok. refl) (λ v ok. ((ok.0, ok.1.1), tt)) kind (kind_is kind 8 is) at behind rest x are r)
     (λ h. chosen Command (kind == 9) _ _ x (WasRead at (kind ∷ rest) x) h
     (λ is r. kind_was (List ℕ) Command Delete key_at string16 command_bytes IsKey IsWhole key_law 9
-        (λ v ok. refl) (λ v ok. (ok, tt)) kind (kind_is kind 9 is) at behind rest x are r)
+    (λ v ok. refl) (λ v ok. (ok, tt)) kind (kind_is kind 9 is) at behind rest x are r)
     (λ h. absurd (no_kind at x h))))))))))
   where
     no_kind : (at : ℕ) (x : Command × Spot) → Err (BadKind at) ≡ Ok x → ⊥
@@ -208,7 +208,7 @@ command_again (Append log value) at tail is =
     ((omega arith, is.0.0), (omega arith, is.0.1))
 command_again (Multi logs value) at tail is =
     let r = kind_again (List LogId × List ℕ) Command (λ v. Multi v.0 v.1) (both logs_at stored_at) logs_value_text (λ v. AreCounted v.0 × HasLength 0 2048 v.1) multi_fields (logs, value) (at + 1) tail
-        (((omega (arith, is.0.0.1), is.0.0.0, is.0.0.1), logs_rising 0 logs is.0.0.2), (omega arith, is.0.1)) in
+    (((omega (arith, is.0.0.1), is.0.0.0, is.0.0.1), logs_rising 0 logs is.0.0.2), (omega arith, is.0.1)) in
     (r.0, ap (λ (t : List ℕ). multi_at (record { at = at + 1; rest = (length logs ∷ (t ++ string16 value)) ++ tail })) (sym (log_texts logs)) ∙ r.1)
 command_again (ReadLog log position) at tail is =
     kind_again (LogId × ℕ) Command (λ v. ReadLog v.0 v.1) (both (log_from 0) (number_at w64)) log_position_text (λ v. IsLogFrom 0 v.0 × (v.1 < 2 ^ 64)) position_fields (log, position) (at + 1) tail

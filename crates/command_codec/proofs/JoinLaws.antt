@@ -60,10 +60,12 @@ rest_of (part ∷ parts) = by_mark (has_more part) part parts (rest_of parts)
         (rest : List TableEntry) × (flat_map entries_of (part ∷ parts) ≡ flat_map entries_of (if t then part ∷ [] else part ∷ until_more parts) ++ rest)
     by_mark true part parts others =
         (flat_map entries_of parts, flat_map-cons entries_of part parts ∙ ap (λ (x : List TableEntry). x ++ flat_map entries_of parts) (sym (flat_map-cons entries_of part [] ∙ append-nil (entries_of part))))
-    by_mark false part parts others =
-        (others.0, flat_map-cons entries_of part parts ∙ ap (λ (x : List TableEntry). entries_of part ++ x) others.1
-        ∙ sym (append_assoc (entries_of part) (flat_map entries_of (until_more parts)) others.0)
-        ∙ ap (λ (x : List TableEntry). x ++ others.0) (sym (flat_map-cons entries_of part (until_more parts))))
+    by_mark false part parts others = (
+      others.0,
+      flat_map-cons entries_of part parts ∙ ap (λ (x : List TableEntry). entries_of part ++ x) others.1
+          ∙ sym (append_assoc (entries_of part) (flat_map entries_of (until_more parts)) others.0)
+          ∙ ap (λ (x : List TableEntry). x ++ others.0) (sym (flat_map-cons entries_of part (until_more parts))),
+    )
 
 true_both : (a b : Bool) → IsTrue (a && b) → IsTrue a × IsTrue b
 true_both true b h = (refl, h)

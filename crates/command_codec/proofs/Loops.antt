@@ -31,7 +31,7 @@ pub goes_on : {S V : Type 0} (read : S → Reader V) (next : V → S) (front now
 goes_on read next front now count turn asked spot v behind total less h grown so_far =
     let k : count - turn ≡ suc (count - (turn + 1)) = omega arith in
     let one : before front (chain read next (count - turn) asked spot) ≡ before (front ++ v ∷ []) (chain read next (count - (turn + 1)) (next v) behind) =
-        rw (k, h) (regroup front v (chain read next (count - (turn + 1)) (next v) behind)) in
+    rw (k, h) (regroup front v (chain read next (count - (turn + 1)) (next v) behind)) in
     rw grown (sym one ∙ so_far)
 
 fails_by : {S V : Type 0} (read : S → Reader V) (next : V → S) (front : List V) (count turn : ℕ) (asked : S) (spot : Spot) (total : Result (List V × Spot) CodecFault) (e : CodecFault) →

@@ -59,7 +59,7 @@ table_entry_law before =
     shown_law (List ℕ × List ℕ) TableEntry (λ x. record { key = x.0; value = x.1 }) (λ e. (e.key, e.value)) (both (string_that 1 256 (comes_after before)) stored_at) two_text table_entry_bytes
     (λ v. (HasLength 1 256 v.0 × IsTrue (comes_after before v.0)) × HasLength 0 2048 v.1) (IsLater before)
     (both_law (List ℕ) (List ℕ) (string_that 1 256 (comes_after before)) stored_at string16 string16 (λ k. HasLength 1 256 k × IsTrue (comes_after before k)) (HasLength 0 2048)
-        (string_that_law 1 256 (comes_after before) (lit< tt)) stored_law)
+    (string_that_law 1 256 (comes_after before) (lit< tt)) stored_law)
     (λ v. refl) (λ v is. ((is.0.0, is.1.1), is.0.1)) (λ e. refl) (λ e is. ((is.0.0, is.1), (omega arith, is.0.1)))
 
 abbrev pub AreLater : List TableEntry → Type 0
@@ -125,8 +125,8 @@ unfolding reply_of_kind positions_at entries_reply_at
 of_kind_was at behind kind rest x are h =
     chosen Reply (kind == 1) _ _ x (WasReply at (kind ∷ rest) x) h
     (λ is r. kind_was (List LogPosition) Reply Positions (many byte_at position_at) (counted_text one_byte position_bytes) reply_bytes ArePlaces IsWhole places_law 1
-        (λ v ok. refl)
-        (λ v ok. (record { few = omega (arith, ok.0); each = logs_of_places v (of_chain IsPlace v ok.1) }, numbers_of_places v (of_chain IsPlace v ok.1))) kind (kind_is kind 1 is) at behind rest x are r)
+    (λ v ok. refl)
+    (λ v ok. (record { few = omega (arith, ok.0); each = logs_of_places v (of_chain IsPlace v ok.1) }, numbers_of_places v (of_chain IsPlace v ok.1))) kind (kind_is kind 1 is) at behind rest x are r)
     (λ h. chosen Reply (kind == 2) _ _ x (WasReply at (kind ∷ rest) x) h
     (λ is r. kind_was (List ℕ) Reply Value stored_at string16 reply_bytes (HasLength 0 2048) IsWhole stored_law 2 (λ v ok. refl) (λ v ok. (ok.1, tt)) kind (kind_is kind 2 is) at behind rest x are r)
     (λ h. chosen Reply (kind == 3) _ _ x (WasReply at (kind ∷ rest) x) h
@@ -141,9 +141,9 @@ of_kind_was at behind kind rest x are h =
     (λ is r. alone_was Reply Done reply_bytes IsWhole 7 refl (tt, tt) kind (kind_is kind 7 is) at behind rest x are r)
     (λ h. chosen Reply (kind == 8) _ _ x (WasReply at (kind ∷ rest) x) h
     (λ is r. kind_was (ℕ × List TableEntry) Reply (λ x. Entries (x.0 == 1) x.1) (both (within 0 1 byte_at) (counted (number_at w16) table_entry_at key_of [])) marked_text reply_bytes
-        (λ v. IsMark v.0 × AreLater v.1) IsWhole marked_law 8
-        (λ v ok. ap (λ (n : ℕ). 8 ∷ n ∷ (u16_bytes (length v.1) ++ flat_map table_entry_bytes v.1)) (flag_is v.0 ok.0.2))
-        (λ v ok. (record { few = omega (arith, ok.1.0); each = each_of_later [] v.1 ok.1.1; rising = rising_of_later [] v.1 ok.1.1 }, tt)) kind (kind_is kind 8 is) at behind rest x are r)
+    (λ v. IsMark v.0 × AreLater v.1) IsWhole marked_law 8
+    (λ v ok. ap (λ (n : ℕ). 8 ∷ n ∷ (u16_bytes (length v.1) ++ flat_map table_entry_bytes v.1)) (flag_is v.0 ok.0.2))
+    (λ v ok. (record { few = omega (arith, ok.1.0); each = each_of_later [] v.1 ok.1.1; rising = rising_of_later [] v.1 ok.1.1 }, tt)) kind (kind_is kind 8 is) at behind rest x are r)
     (λ h. chosen Reply (kind == 9) _ _ x (WasReply at (kind ∷ rest) x) h
     (λ is r. alone_was Reply Limit reply_bytes IsWhole 9 refl (tt, tt) kind (kind_is kind 9 is) at behind rest x are r)
     (λ h. absurd (no_kind at x h))))))))))

@@ -71,15 +71,15 @@ delete_at = shown Delete key_at
 unfoldable pub command_of_kind : ℕ → ℕ → Reader Command
 command_of_kind at kind spot =
     if kind == 1 then append_at spot
-        else if kind == 2 then multi_at spot
-        else if kind == 3 then read_log_at spot
-        else if kind == 4 then trim_log_at spot
-        else if kind == 5 then get_at spot
-        else if kind == 6 then scan_at spot
-        else if kind == 7 then update_at spot
-        else if kind == 8 then insert_at spot
-        else if kind == 9 then delete_at spot
-        else Err (BadKind at)
+    else if kind == 2 then multi_at spot
+    else if kind == 3 then read_log_at spot
+    else if kind == 4 then trim_log_at spot
+    else if kind == 5 then get_at spot
+    else if kind == 6 then scan_at spot
+    else if kind == 7 then update_at spot
+    else if kind == 8 then insert_at spot
+    else if kind == 9 then delete_at spot
+    else Err (BadKind at)
 
 unfoldable pub command_at : Reader Command
 command_at spot = do
@@ -136,15 +136,15 @@ entries_reply_at = shown (λ x. replies.Entries (x.0 == 1) x.1) (both (within 0 
 unfoldable pub reply_of_kind : ℕ → ℕ → Reader Reply
 reply_of_kind at kind spot =
     if kind == 1 then positions_at spot
-        else if kind == 2 then shown replies.Value stored_at spot
-        else if kind == 3 then shown replies.Trimmed (number_at w64) spot
-        else if kind == 4 then nothing replies.Absent spot
-        else if kind == 5 then shown replies.Beyond (number_at w64) spot
-        else if kind == 6 then nothing replies.Exists spot
-        else if kind == 7 then nothing replies.Done spot
-        else if kind == 8 then entries_reply_at spot
-        else if kind == 9 then nothing replies.Limit spot
-        else Err (BadKind at)
+    else if kind == 2 then shown replies.Value stored_at spot
+    else if kind == 3 then shown replies.Trimmed (number_at w64) spot
+    else if kind == 4 then nothing replies.Absent spot
+    else if kind == 5 then shown replies.Beyond (number_at w64) spot
+    else if kind == 6 then nothing replies.Exists spot
+    else if kind == 7 then nothing replies.Done spot
+    else if kind == 8 then entries_reply_at spot
+    else if kind == 9 then nothing replies.Limit spot
+    else Err (BadKind at)
 
 unfoldable pub reply_at : Reader Reply
 reply_at spot = do

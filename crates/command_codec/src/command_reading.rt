@@ -7,9 +7,8 @@ ghost use Rattle.command_codec.specs.Grammar.{command_of, command_at, command_of
 ghost use Rattle.command_codec.specs.Spelling.{command_bytes};
 ghost use Rattle.command_codec.specs.Valid.{IsCommand, HasNumbers};
 
-use crate::order;
 use crate::reading::Cursor;
-use crate::{CodecFault, Command, Logs};
+use crate::{CodecFault, Command, Logs, order};
 use mrp_types::{LogId, Octets};
 use std::alloc::Global;
 

@@ -11,11 +11,10 @@ use std::alloc::Global;
 
 /// The replies of the concerned partitions in their order, as one. The first that has neither positions nor
 /// entries is the answer. Positions are put one after another; entries up to and including the first part
-/// that has more.
+/// that has more. Ask it of one or more replies that can be one: else the result may have no spelling.
 pub fn join(alloc: Global, parts: &[Reply]) -> Result<Reply, Memory>
-    requires { AreParts parts.now }
     ensures exact { IfOk result (λ reply. reply ≡ joined parts.now) }
-    ensures valid { IfOk result IsReply }
+    ensures valid { AreParts parts.now → IfOk result IsReply }
 {
     join_all(alloc, parts)
 }

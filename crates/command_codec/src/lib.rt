@@ -28,3 +28,6 @@ pub use lists::{Entries, LogPositions, TableEntries};
 pub use logs::Logs;
 pub use reply::{LogPosition, Reply, TableEntry, write_reply};
 pub use reply_reading::read_reply;
+
+#[cfg(test)]
+mod tests;

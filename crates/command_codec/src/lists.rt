@@ -2,8 +2,8 @@
 
 ghost use Rattle.std.specs.Prelude.{◌≡◌, IfOk};
 
-use crate::{LogPosition, TableEntry};
 use crate::joining::add_copies;
+use crate::{LogPosition, TableEntry};
 use mrp_types::{Entry, Memory};
 use std::alloc::Global;
 use std::marker::Model;

@@ -6,9 +6,8 @@ ghost use Rattle.command_codec.specs.Reader.{Reads, Says, chain, each, string_th
 ghost use Rattle.command_codec.specs.Grammar.{reply_of, reply_at, reply_of_kind, positions_at, position_at, entries_reply_at, table_entry_at, key_of, comes_after};
 ghost use Rattle.command_codec.specs.Replies.{reply_bytes, IsReply, HasNumbers};
 
-use crate::order;
 use crate::reading::Cursor;
-use crate::{CodecFault, LogPosition, LogPositions, Reply, TableEntries, TableEntry};
+use crate::{CodecFault, LogPosition, LogPositions, Reply, TableEntries, TableEntry, order};
 use mrp_types::{LogId, Octets};
 use std::alloc::Global;
 

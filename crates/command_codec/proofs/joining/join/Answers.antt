@@ -11,4 +11,4 @@ is_valid parts (Ok reply) are is = subst IsReply (sym is) (joined_is parts are)
 is_valid parts (Err e) are is = tt
 
 pub returns-clause-valid : goal.returns-clause-valid
-returns-clause-valid c = is_valid c.args.parts.now c.join_all.result c.requires c.join_all.ensures
+returns-clause-valid c = λ are. is_valid c.args.parts.now c.join_all.result are c.join_all.ensures
