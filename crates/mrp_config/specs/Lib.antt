@@ -1,2 +1,4 @@
 pub mod Config
 pub mod Routing
+pub mod Address
+pub mod Walk
