@@ -1,7 +1,7 @@
 -- A command is read as it is spelled, and what is read is spelled so.
-use Rattle.std.proofs.Common.{lit<, ◌≡◌, ℕ, ◌+◌, ◌^◌, ◌<◌, ◌≤◌, Bool, true, false, List, [], ◌∷◌, ◌++◌, ◌⊎◌, inl, inr, ◌&&◌, ◌||◌, ◌==◌, nat_le, nat_lt, length, map, Result, Ok, Err, refl, sym, ap, subst, ◌∙◌, arith, if◌then◌else◌, IsTrue, IfOk}
-use Rattle.std.specs.Int.{w16, w64}
-use Rattle.std.specs.List.{flat_map, AllByRecursion}
+use Rattle.std.proofs.Common.{lit<, ◌≡◌, ℕ, ◌+◌, ◌^◌, ◌<◌, ◌≤◌, Bool, true, false, List, [], ◌∷◌, ◌++◌, ◌⊎◌, inl, inr, ◌&&◌, ◌||◌, ◌==◌, nat_le, nat_lt, length, map, Result, Ok, Err, refl, sym, ap, subst, ◌∙◌, arith, IsTrue, IfOk}
+use Rattle.std.specs.Int.{w64}
+use Rattle.std.specs.List.{flat_map}
 use Rattle.std.specs.Ordering.{nat_cmp, is_lt}
 use Rattle.std.specs.Cmp.Lexicographic.{slice_cmp}
 use Rattle.std.specs.declared.cmp.Ordering.{Ordering}
@@ -9,7 +9,6 @@ use Rattle.std.specs.declared.cmp.Ordering.TheVariants as orderings
 use Rattle.std.proofs.lemmas.Bool.{eqb-true}
 use Rattle.std.proofs.lemmas.List.{nil_from_length}
 use Rattle.std.proofs.lemmas.List.Concat.{flat_map-cons}
-use Rattle.std.proofs.lemmas.Grind.{common_steps}
 use Rattle.mrp_types.specs.declared.id.LogId.{LogId}
 use Rattle.command_codec.specs.declared.command.Command.{Command}
 use Rattle.command_codec.specs.declared.command.Command.TheVariants.{Append, Multi, ReadLog, TrimLog, Get, Scan, Update, Insert, Delete}
@@ -17,8 +16,8 @@ use Rattle.command_codec.specs.declared.fault.CodecFault.{CodecFault}
 use Rattle.command_codec.specs.declared.fault.CodecFault.TheVariants.{BadKind}
 use Rattle.command_codec.specs.Fields.{u64_bytes, string16}
 use Rattle.command_codec.specs.Spelling.{command_bytes}
-use Rattle.command_codec.specs.Valid.{IsCommand, IsKey, IsStored, AreLogs, IsRange, HasNumbers, rises_from}
-use Rattle.command_codec.specs.Reader.{Spot, Reader, ◌>>=◌, byte_at, number_at, within, string_at, string_that, follow, both, shown, counted, whole, Says}
+use Rattle.command_codec.specs.Valid.{IsCommand, IsKey, HasNumbers, rises_from}
+use Rattle.command_codec.specs.Reader.{Spot, byte_at, number_at, within, string_at, string_that, follow, both, Says}
 use Rattle.command_codec.specs.Grammar.{log_from, after_log, logs_at, key_at, stored_at, ends, append_at, multi_at, read_log_at, trim_log_at, get_at, scan_at, update_at, insert_at, delete_at, command_of_kind, command_at, command_of}
 use Rattle.command_codec.proofs.ReaderLaws.{AreBytes, Took, Again, Field, HasLength, one_byte, byte_law, number_law, wide64, within_law, string_law, string_that_law, rest_are}
 use Rattle.command_codec.proofs.Combined.{follow_law, both_law, shown_law, kind_was, kind_again, chosen, AllInChain, counted_law, counted_text, whole_was, whole_again}

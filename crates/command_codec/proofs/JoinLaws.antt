@@ -1,12 +1,11 @@
 -- Replies that can be one are a reply that has a spelling.
-use Rattle.std.proofs.Common.{◌≡◌, ℕ, ◌+◌, ◌<◌, ◌≤◌, Bool, true, false, List, [], ◌∷◌, ◌++◌, ◌&&◌, length, Option, Some, None, refl, sym, ap, subst, ◌∙◌, append_assoc, append-nil, arith, if◌then◌else◌, IsTrue, length-append}
+use Rattle.std.proofs.Common.{◌≡◌, ℕ, ◌+◌, Bool, true, false, List, [], ◌∷◌, ◌++◌, ◌&&◌, length, Some, refl, sym, ap, subst, ◌∙◌, append_assoc, append-nil, arith, if◌then◌else◌, IsTrue, length-append}
 use Rattle.std.specs.List.{flat_map, AllByRecursion}
 use Rattle.std.proofs.lemmas.List.Concat.{flat_map-cons}
-use Rattle.command_codec.specs.declared.reply.LogPosition.{LogPosition}
 use Rattle.command_codec.specs.declared.reply.TableEntry.{TableEntry}
 use Rattle.command_codec.specs.declared.reply.Reply.{Reply}
 use Rattle.command_codec.specs.declared.reply.Reply.TheVariants.{Positions, Value, Trimmed, Absent, Beyond, Exists, Done, Entries, Limit}
-use Rattle.command_codec.specs.Replies.{IsReply, IsPosition, ArePositions, IsTableEntry, AreTableEntries, keys_rise, is_other, first_other, positions_of, entries_of, has_more, until_more, some_more, starts_with_positions, positions_reply, entries_reply, or_else, joined, AreParts}
+use Rattle.command_codec.specs.Replies.{IsReply, IsPosition, IsTableEntry, keys_rise, is_other, first_other, positions_of, entries_of, has_more, until_more, starts_with_positions, positions_reply, entries_reply, or_else, joined, AreParts}
 use Rattle.command_codec.specs.Grammar.{comes_after}
 
 all_append : {V : Type 0} (Is : V → Type 0) (xs ys : List V) → AllByRecursion Is xs → AllByRecursion Is ys → AllByRecursion Is (xs ++ ys)

@@ -1,8 +1,7 @@
 -- Reading a list one after the other, as a loop does.
-use Rattle.std.proofs.Common.{◌≡◌, ℕ, suc, ◌-◌, ◌+◌, ◌≤◌, ◌<◌, List, [], ◌∷◌, ◌++◌, ◌⊎◌, inl, inr, Result, Ok, Err, refl, sym, ap, ◌∙◌, append_assoc, append-nil, arith}
+use Rattle.std.proofs.Common.{◌≡◌, ℕ, suc, ◌-◌, ◌+◌, ◌≤◌, ◌<◌, List, [], ◌∷◌, ◌++◌, inl, inr, Result, Ok, Err, refl, sym, ap, ◌∙◌, append_assoc, append-nil, arith}
 use Rattle.std.specs.Prelude.{IsErrAnd}
 use Rattle.command_codec.specs.declared.fault.CodecFault.{CodecFault}
-use Rattle.command_codec.specs.declared.fault.CodecFault.TheVariants.{Memory}
 use Rattle.command_codec.specs.Reader.{Spot, Reader, ◌>>=◌, chain, Fails, Reads}
 
 -- what was read before, and what is still read

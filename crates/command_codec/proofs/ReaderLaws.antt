@@ -1,17 +1,13 @@
 -- What a field's reader takes is the field's spelling, and what is spelled so is read.
-use Rattle.std.proofs.Common.{◌≡◌, ℕ, zero, suc, ◌+◌, ◌^◌, ◌<◌, ◌≤◌, Bool, true, false, List, [], ◌∷◌, ◌++◌, length, get_or, take, drop, Result, Ok, Err, refl, sym, ap, subst, ◌∙◌, append_assoc, arith, inl, inr, nat_lt, ◌==◌, if◌then◌else◌, IsTrue}
-use Rattle.std.specs.Int.{Width, w16, w32, w64, byte_len, from_be_bytes, to_be_bytes}
-use Rattle.std.specs.List.{flat_map, AllByRecursion}
+use Rattle.std.proofs.Common.{◌≡◌, ℕ, suc, ◌+◌, ◌^◌, ◌<◌, ◌≤◌, Bool, true, false, List, [], ◌∷◌, ◌++◌, length, get_or, take, drop, Result, Ok, Err, refl, sym, ap, subst, ◌∙◌, append_assoc, arith, inl, inr, nat_lt, if◌then◌else◌, IsTrue}
+use Rattle.std.specs.Int.{Width, w16, w32, w64, byte_len, from_be_bytes}
 use Rattle.std.proofs.lemmas.Bool.{cases_lt, ltb-false, le-ltb}
-use Rattle.std.proofs.lemmas.Grind.{common_steps}
-use Rattle.std.proofs.lemmas.List.{take_at, drop_at, take-append-drop, length-append, length-take, get_or-drop, get_or-take, get_or_past, append-nil, nil_from_length}
-use Rattle.std.proofs.lemmas.List.Concat.{flat_map-cons}
-use Rattle.std.proofs.lemmas.Bool.{eqb-true}
+use Rattle.std.proofs.lemmas.List.{take_at, drop_at, take-append-drop, length-append, length-take, get_or-drop, get_or-take, get_or_past}
 use Rattle.std.proofs.lemmas.Nat.{be_bytes_2, be_bytes_4, be_bytes_8, from_be_bytes-to_be_bytes_2, from_be_bytes-to_be_bytes_4, from_be_bytes-to_be_bytes_8}
 use Rattle.command_codec.specs.declared.fault.CodecFault.{CodecFault}
-use Rattle.command_codec.specs.declared.fault.CodecFault.TheVariants.{Short, BadField, TooLong, Left}
+use Rattle.command_codec.specs.declared.fault.CodecFault.TheVariants.{Short, BadField, TooLong}
 use Rattle.command_codec.specs.Fields.{u16_bytes, u32_bytes, u64_bytes, string16}
-use Rattle.command_codec.specs.Reader.{Spot, Reader, ◌>>=◌, byte_of, byte_at, bytes_at, number_at, within, length_at, string_at, string_that, follow, both, nothing, shown, chain, counted, many, ended, whole, start}
+use Rattle.command_codec.specs.Reader.{Spot, Reader, ◌>>=◌, byte_of, byte_at, bytes_at, number_at, within, length_at, string_at, string_that}
 
 -- ---- bytes
 

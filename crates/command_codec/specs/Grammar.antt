@@ -1,5 +1,5 @@
 -- Reading of commands, batches and replies.
-use Rattle.std.specs.Prelude.{ℕ, ◌+◌, ◌-◌, ◌^◌, ◌==◌, ◌||◌, if◌then◌else◌, Bool, List, [], length, Result, Ok, Err}
+use Rattle.std.specs.Prelude.{ℕ, ◌+◌, ◌-◌, ◌^◌, ◌==◌, ◌||◌, if◌then◌else◌, Bool, List, [], length, Result, Err}
 use Rattle.std.specs.Int.{w16, w64}
 use Rattle.std.specs.Ordering.{nat_cmp, is_lt}
 use Rattle.std.specs.Cmp.Lexicographic.{slice_cmp}
@@ -13,7 +13,7 @@ use Rattle.command_codec.specs.declared.reply.Reply.{Reply}
 use Rattle.command_codec.specs.declared.reply.Reply.TheVariants as replies
 use Rattle.command_codec.specs.declared.fault.CodecFault.{CodecFault}
 use Rattle.command_codec.specs.declared.fault.CodecFault.TheVariants.{BadKind}
-use Rattle.command_codec.specs.Reader.{Reader, Spot, ◌>>=◌, byte_at, number_at, within, string_at, string_that, follow, both, nothing, shown, counted, many, whole}
+use Rattle.command_codec.specs.Reader.{Reader, ◌>>=◌, byte_at, number_at, within, string_at, string_that, follow, both, nothing, shown, counted, many, whole}
 
 -- ---- parts
 

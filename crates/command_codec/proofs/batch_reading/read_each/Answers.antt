@@ -1,4 +1,4 @@
-use Rattle.std.proofs.Common.{◌≡◌, ℕ}
+use Rattle.std.proofs.Common.{ℕ}
 use Rattle.command_codec.specs.Grammar.{entry_at}
 use Rattle.command_codec.proofs.Loops.{goes_on, ends, is_done, begins}
 use Rattle.command_codec.proofs.batch_reading.read_each.Goals as goal

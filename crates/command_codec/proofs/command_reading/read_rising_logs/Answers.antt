@@ -1,6 +1,3 @@
-use Rattle.std.proofs.Common.{◌≡◌}
-use Rattle.mrp_types.specs.declared.id.LogId.{LogId}
-use Rattle.command_codec.specs.Reader.{chain}
 use Rattle.command_codec.specs.Grammar.{log_from, after_log}
 use Rattle.command_codec.proofs.Loops.{goes_on, ends, is_done, begins}
 use Rattle.command_codec.proofs.command_reading.read_rising_logs.Goals as goal

@@ -1,4 +1,4 @@
-use Rattle.std.proofs.Common.{◌≡◌, ◌≤◌, ◌-◌}
+use Rattle.std.proofs.Common.{◌≡◌, ◌-◌}
 use Rattle.command_codec.specs.Reader.{chain}
 use Rattle.command_codec.specs.Grammar.{log_from, after_log}
 use Rattle.command_codec.proofs.Loops.{before}

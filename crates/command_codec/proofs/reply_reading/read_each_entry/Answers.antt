@@ -1,4 +1,4 @@
-use Rattle.std.proofs.Common.{◌≡◌, []}
+use Rattle.std.proofs.Common.{[]}
 use Rattle.command_codec.specs.Grammar.{table_entry_at, key_of}
 use Rattle.command_codec.proofs.Loops.{goes_on, ends, is_done, begins}
 use Rattle.command_codec.proofs.reply_reading.read_each_entry.Goals as goal

@@ -1,4 +1,4 @@
-use Rattle.std.proofs.Common.{◌≡◌, ℕ}
+use Rattle.std.proofs.Common.{ℕ}
 use Rattle.command_codec.specs.Grammar.{position_at}
 use Rattle.command_codec.proofs.Loops.{goes_on, ends, is_done, begins}
 use Rattle.command_codec.proofs.reply_reading.read_each_position.Goals as goal
