@@ -1,5 +1,5 @@
 -- The one spelling of each command, entry, batch and value, and which of them have one.
-use Rattle.std.specs.Prelude.{ℕ, ◌≡◌, ◌≤◌, ◌<◌, ◌⊎◌, List, [], ◌∷◌, ◌++◌, length, map}
+use Rattle.std.specs.Prelude.{ℕ, ◌≤◌, List, [], ◌∷◌, ◌++◌, length, map}
 use Rattle.std.specs.List.{flat_map, AllByRecursion}
 use Rattle.mrp_types.specs.declared.id.LogId.{LogId}
 use Rattle.mrp_types.specs.declared.value.Entry.{Entry}
@@ -35,7 +35,13 @@ abbrev pub value_bytes : Value → List ℕ
 value_bytes Skip = 0 ∷ []
 value_bytes (Batch batch) = batch
 
--- a list of one or more entries that has a spelling
+-- 1 to 65,535 entries
+pub record AreEntries (entries : List Entry) : Type 0 where
+  pub some : 1 ≤ length entries
+  pub few : length entries ≤ 65535
+  pub each : AllByRecursion IsEntry entries
+
+-- entries whose spelling is short enough for an instance
 pub record IsBatch (entries : List Entry) : Type 0 where
   pub some : 1 ≤ length entries
   pub few : length entries ≤ 65535

@@ -1,5 +1,5 @@
 -- Which commands have a spelling.
-use Rattle.std.specs.Prelude.{ℕ, ◌≡◌, ◌≤◌, ◌<◌, ◌+◌, ◌⊎◌, Bool, true, nat_le, nat_lt, ◌&&◌, IsTrue, List, [], ◌∷◌, length}
+use Rattle.std.specs.Prelude.{ℕ, ◌≡◌, ◌≤◌, ◌<◌, ◌+◌, ◌⊎◌, ◌^◌, Bool, true, nat_le, nat_lt, ◌&&◌, IsTrue, List, [], ◌∷◌, length}
 use Rattle.std.specs.Ordering.{nat_cmp}
 use Rattle.std.specs.Cmp.Lexicographic.{slice_cmp}
 use Rattle.std.specs.declared.cmp.Ordering.TheVariants.{Less}
@@ -38,3 +38,9 @@ IsCommand (Scan from to) = IsRange from to
 IsCommand (Update key value) = IsKey key × IsStored value
 IsCommand (Insert key value) = IsKey key × IsStored value
 IsCommand (Delete key) = IsKey key
+
+-- numbers are below 2 ^ 64, as those of the code are
+abbrev pub HasNumbers : Command → Type 0
+HasNumbers (ReadLog log position) = position < 2 ^ 64
+HasNumbers (TrimLog log position) = position < 2 ^ 64
+HasNumbers other = Unit {0}

@@ -1,13 +1,33 @@
-//! Commands and batches as bytes: each value has one spelling.
+//! Commands, batches and replies as bytes: each value has one spelling.
 //!
-//! `specs/Spelling.antt` has the spellings as functions of the value, and what has one.
+//! `specs/Spelling.antt` and `specs/Replies.antt` have the spellings as functions of the value, `specs/Grammar.antt`
+//! has the reading, field by field from the left. The module `reading` has the fields for other crates.
 #![tactic(auto)]
 
 mod batch;
+mod batch_reading;
 mod command;
+mod command_reading;
+mod fault;
+mod joining;
+mod lists;
 mod logs;
+mod order;
+pub mod reading;
+mod reply;
+mod reply_reading;
 pub mod writing;
 
 pub use batch::write_batch;
+pub use batch_reading::read_batch;
 pub use command::{Command, write_command};
+pub use command_reading::read_command;
+pub use fault::CodecFault;
+pub use joining::join;
+pub use lists::{Entries, LogPositions, TableEntries};
 pub use logs::Logs;
+pub use reply::{LogPosition, Reply, TableEntry, write_reply};
+pub use reply_reading::read_reply;
+
+#[cfg(test)]
+mod tests;

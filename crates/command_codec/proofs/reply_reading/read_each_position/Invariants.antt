@@ -1,0 +1,10 @@
+use Rattle.std.proofs.Common.{◌≡◌, ◌-◌}
+use Rattle.command_codec.specs.Reader.{each}
+use Rattle.command_codec.specs.Grammar.{position_at}
+use Rattle.command_codec.proofs.Loops.{before}
+use Rattle.command_codec.proofs.reply_reading.read_each_position.Given as goal
+
+-- what was read so far and what is still read are all of it
+abbrev pub invariant-loop-turn : goal.invariant-loop-turn
+invariant-loop-turn l =
+    before l.positions.items (each position_at (l.count - l._turn) l.fields) ≡ each position_at l.count l.fn.fields

@@ -1,0 +1,240 @@
+use super::*;
+use mrp_types::{ClientId, Entry, LogId, Octets};
+use std::alloc::Global;
+use std::test::*;
+
+// Each command's bytes by hand: kind, then the fields.
+const COMMANDS: [&[u8]; 11] = [
+    &[1, 0, 0, 2, 104, 105],
+    &[1, 63, 0, 0],
+    &[2, 2, 0, 63, 0, 1, 99],
+    &[3, 7, 0, 0, 0, 0, 0, 0, 1, 2],
+    &[4, 7, 255, 255, 255, 255, 255, 255, 255, 255],
+    &[5, 0, 1, 98],
+    &[6, 0, 0, 0, 0],
+    &[6, 0, 1, 98, 0, 2, 98, 0],
+    &[7, 0, 1, 98, 0, 1, 99],
+    &[8, 0, 1, 98, 0, 0],
+    &[9, 0, 1, 98],
+];
+
+#[test]
+fn commands_are_written_as_they_were_read(rt: HostRuntime) -> Result<(), Fail> {
+    let alloc = rt.alloc();
+    for bytes in COMMANDS {
+        let command = read_command(alloc, bytes).ok().ok_or("a command")?;
+        assert!(rt; command.is_valid());
+        let again = write_command(alloc, &command)?;
+        assert_eq!(rt; again.bytes(), bytes);
+    }
+    Ok(())
+}
+
+#[test]
+fn faults_of_commands(rt: HostRuntime) {
+    let faults: [(&[u8], CodecFault); 22] = [
+        (&[], CodecFault::Short(0)),
+        (&[0], CodecFault::BadKind(0)),
+        (&[10], CodecFault::BadKind(0)),
+        (&[1], CodecFault::Short(1)),
+        (&[1, 64], CodecFault::BadField(1)),
+        (&[1, 0, 0], CodecFault::Short(2)),
+        (&[1, 0, 8, 1], CodecFault::TooLong(2)),
+        (&[1, 0, 0, 2, 9], CodecFault::Short(4)),
+        (&[1, 0, 0, 0, 9], CodecFault::Left(4)),
+        (&[2, 0], CodecFault::BadField(1)),
+        (&[2, 65], CodecFault::BadField(1)),
+        (&[2, 2, 5, 5], CodecFault::BadField(3)),
+        (&[2, 2, 5, 4], CodecFault::BadField(3)),
+        (&[2, 2, 5], CodecFault::Short(3)),
+        (&[2, 1, 64], CodecFault::BadField(2)),
+        (&[3, 0, 0, 0], CodecFault::Short(2)),
+        (&[5, 0, 0], CodecFault::BadField(1)),
+        (&[5, 1, 1], CodecFault::TooLong(1)),
+        (&[6, 0, 1, 98, 0, 1, 98], CodecFault::BadField(6)),
+        (&[6, 0, 1, 98, 0, 1, 97], CodecFault::BadField(6)),
+        (&[6, 0, 1, 98, 0, 1], CodecFault::Short(6)),
+        (&[9, 0, 1, 98, 0], CodecFault::Left(4)),
+    ];
+    for (bytes, want) in faults {
+        match read_command(rt.alloc(), bytes) {
+            Ok(_) => assert!(rt; false, "a command was read of {bytes:?}"),
+            Err(fault) => assert_eq!(rt; fault, want, "{bytes:?}"),
+        }
+    }
+}
+
+#[test]
+fn batches(rt: HostRuntime) -> Result<(), Fail> {
+    let alloc = rt.alloc();
+    let bytes = [
+        1, 0, 2, 0, 0, 0, 0, 0, 0, 0, 0, 1, 0, 1, 97, 255, 127, 255, 255, 255, 255, 255, 255, 255,
+        0, 0,
+    ];
+    let entries = read_batch(alloc, &bytes).ok().ok_or("a batch")?;
+    let [first, second] = entries.items() else {
+        return Err("two entries".into());
+    };
+    assert_eq!(rt; first.client, ClientId(0));
+    assert_eq!(rt; first.seq, 1);
+    assert_eq!(rt; first.command.bytes(), b"a".as_slice());
+    assert_eq!(rt; second.seq, u64::MAX / 2);
+    assert_eq!(rt;
+        write_batch(alloc, entries.items())?.bytes(),
+        bytes.as_slice()
+    );
+    Ok(())
+}
+
+#[test]
+fn faults_of_batches(rt: HostRuntime) {
+    let faults: [(&[u8], CodecFault); 9] = [
+        (&[], CodecFault::Short(0)),
+        (&[0], CodecFault::BadKind(0)),
+        (&[2], CodecFault::BadKind(0)),
+        (&[1, 0], CodecFault::Short(1)),
+        (&[1, 0, 0], CodecFault::BadField(1)),
+        (
+            &[1, 0, 1, 0, 0, 0, 0, 0, 0, 0, 0, 0],
+            CodecFault::BadField(4),
+        ),
+        (
+            &[1, 0, 1, 0, 128, 0, 0, 0, 0, 0, 0, 0],
+            CodecFault::BadField(4),
+        ),
+        (
+            &[1, 0, 1, 0, 0, 0, 0, 0, 0, 0, 0, 1, 16, 1],
+            CodecFault::TooLong(12),
+        ),
+        (
+            &[1, 0, 1, 0, 0, 0, 0, 0, 0, 0, 0, 1, 0, 0, 7],
+            CodecFault::Left(14),
+        ),
+    ];
+    for (bytes, want) in faults {
+        match read_batch(rt.alloc(), bytes) {
+            Ok(_) => assert!(rt; false, "a batch was read of {bytes:?}"),
+            Err(fault) => assert_eq!(rt; fault, want, "{bytes:?}"),
+        }
+    }
+}
+
+const REPLIES: [&[u8]; 11] = [
+    &[1, 0],
+    &[1, 2, 0, 0, 0, 0, 0, 0, 0, 0, 2, 1, 0, 0, 0, 0, 0, 0, 0, 0],
+    &[2, 0, 1, 98],
+    &[3, 0, 0, 0, 0, 0, 0, 0, 1],
+    &[4],
+    &[5, 0, 0, 0, 0, 0, 0, 0, 2],
+    &[6],
+    &[7],
+    &[8, 0, 0, 0],
+    &[8, 1, 0, 2, 0, 1, 97, 0, 0, 0, 2, 97, 0, 0, 1, 7],
+    &[9],
+];
+
+#[test]
+fn replies_are_written_as_they_were_read(rt: HostRuntime) -> Result<(), Fail> {
+    let alloc = rt.alloc();
+    for bytes in REPLIES {
+        let reply = read_reply(alloc, bytes).ok().ok_or("a reply")?;
+        assert!(rt; reply.is_valid());
+        let again = write_reply(alloc, &reply.copy(alloc)?)?;
+        assert_eq!(rt; again.bytes(), bytes);
+    }
+    Ok(())
+}
+
+#[test]
+fn faults_of_replies(rt: HostRuntime) {
+    let faults: [(&[u8], CodecFault); 11] = [
+        (&[], CodecFault::Short(0)),
+        (&[0], CodecFault::BadKind(0)),
+        (&[10], CodecFault::BadKind(0)),
+        (&[1, 1, 64], CodecFault::BadField(2)),
+        (&[2, 8, 1], CodecFault::TooLong(1)),
+        (&[3, 0], CodecFault::Short(1)),
+        (&[4, 0], CodecFault::Left(1)),
+        (&[8, 2], CodecFault::BadField(1)),
+        (&[8, 0, 0, 1, 0, 0], CodecFault::BadField(4)),
+        (
+            &[8, 0, 0, 2, 0, 1, 98, 0, 0, 0, 1, 98],
+            CodecFault::BadField(11),
+        ),
+        (
+            &[8, 0, 0, 2, 0, 1, 98, 0, 0, 0, 1, 97],
+            CodecFault::BadField(11),
+        ),
+    ];
+    for (bytes, want) in faults {
+        match read_reply(rt.alloc(), bytes) {
+            Ok(_) => assert!(rt; false, "a reply was read of {bytes:?}"),
+            Err(fault) => assert_eq!(rt; fault, want, "{bytes:?}"),
+        }
+    }
+}
+
+fn joined_of(alloc: Global, first: &[u8], second: &[u8]) -> Result<Octets, Fail> {
+    let first = read_reply(alloc, first).ok().ok_or("a reply")?;
+    let second = read_reply(alloc, second).ok().ok_or("a reply")?;
+    let joined = join(alloc, &[first, second])?;
+    if !joined.is_valid() {
+        return Err("a reply that has a spelling".into());
+    }
+    Ok(write_reply(alloc, &joined)?)
+}
+
+#[test]
+fn joined_answers(rt: HostRuntime) -> Result<(), Fail> {
+    let alloc = rt.alloc();
+    let rows: [(&[u8], &[u8], &[u8]); 4] = [
+        (
+            &[1, 1, 0, 0, 0, 0, 0, 0, 0, 0, 2],
+            &[1, 1, 1, 0, 0, 0, 0, 0, 0, 0, 0],
+            &[1, 2, 0, 0, 0, 0, 0, 0, 0, 0, 2, 1, 0, 0, 0, 0, 0, 0, 0, 0],
+        ),
+        (&[1, 1, 0, 0, 0, 0, 0, 0, 0, 0, 2], &[9], &[9]),
+        (
+            &[8, 1, 0, 1, 0, 1, 97, 0, 0],
+            &[8, 0, 0, 1, 0, 1, 98, 0, 0],
+            &[8, 1, 0, 1, 0, 1, 97, 0, 0],
+        ),
+        (
+            &[8, 0, 0, 1, 0, 1, 98, 0, 0],
+            &[8, 1, 0, 1, 0, 1, 99, 0, 0],
+            &[8, 1, 0, 2, 0, 1, 98, 0, 0, 0, 1, 99, 0, 0],
+        ),
+    ];
+    for (first, second, want) in rows {
+        let joined = joined_of(alloc, first, second)?;
+        assert_eq!(rt; joined.bytes(), want);
+    }
+    let alone = join(alloc, &[Reply::Absent])?;
+    assert!(rt; matches!(alone, Reply::Absent));
+    Ok(())
+}
+
+#[test]
+fn what_has_no_spelling(rt: HostRuntime) -> Result<(), Fail> {
+    let alloc = rt.alloc();
+    let key = Octets::new(alloc);
+    assert!(rt; !Command::Get { key }.is_valid());
+    let value = Octets::from_vec(vec![in alloc; 0; 2_049]?);
+    assert!(rt; !Reply::Value(value).is_valid());
+    let twice = [LogId(1), LogId(1)].to_vec(alloc)?;
+    let value = Octets::new(alloc);
+    assert!(rt;
+        !Command::Multi {
+            logs: Logs::from_vec(twice),
+            value
+        }
+        .is_valid()
+    );
+    let entry = Entry {
+        client: ClientId(0),
+        seq: 0,
+        command: Octets::new(alloc),
+    };
+    assert!(rt; !entry.is_valid());
+    Ok(())
+}
