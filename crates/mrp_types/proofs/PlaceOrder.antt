@@ -1,5 +1,5 @@
 -- Comparing by one number and then by the rest is a total order where the rest is.
-use Rattle.std.proofs.Common.{arith, refl, ap, sym, ◌∙◌, ◌≡◌, ◌<◌, ◌⊎◌, inl, inr, ℕ, ◌/◌, Bool, true, false, IsTrue, nat_lt}
+use Rattle.std.proofs.Common.{arith, sym, ◌∙◌, ◌≡◌, ◌<◌, ◌⊎◌, inl, inr, ℕ, ◌/◌, Bool, false, IsTrue, nat_lt}
 use Rattle.std.proofs.Math.Path.{ap₂}
 use Rattle.std.proofs.lemmas.Bool.{cases_order}
 use Rattle.mrp_types.specs.Places.{lt_then, place_lt, IsInOneOrder}

@@ -1,5 +1,5 @@
 -- What an entry of a batch is.
-use Rattle.std.specs.Prelude.{ℕ, ◌≤◌, ◌<◌, ◌^◌, length}
+use Rattle.std.specs.Prelude.{◌≤◌, ◌<◌, ◌^◌, length}
 use Rattle.mrp_types.specs.declared.value.Entry.{Entry}
 
 -- a number from 1 to 2 ^ 63 - 1, and at most 4,096 bytes

@@ -1,11 +1,10 @@
 -- What a read of a piece adds to the reading of all.
-use Rattle.std.proofs.Common.{arith, ◌≡◌, ◌≤◌, ◌<◌, ℕ, ◌+◌, List, [], ◌++◌, length, Option, Ok, Err, refl, sym, ap, ◌∙◌, subst, length-append}
-use Rattle.std.proofs.lemmas.Grind.{common_steps}
+use Rattle.std.proofs.Common.{arith, ◌≡◌, ◌≤◌, ◌<◌, ℕ, ◌+◌, List, ◌++◌, length, Option, Ok, Err, ap, ◌∙◌, length-append}
 use Rattle.std.proofs.KnownBytes.{Consumes-trans}
 use Rattle.std.specs.Prelude.{Result, IsErrAnd}
 use Rattle.std.specs.Io.KnownBytes.{Consumes}
 use Rattle.outside.specs.Counts.{rise}
-use Rattle.outside.specs.Reading.{Comes, ReadsAll, Piece, PieceComes, PieceSays, FaultSays}
+use Rattle.outside.specs.Reading.{ReadsAll, PieceComes, PieceSays, FaultSays}
 use Rattle.outside.specs.declared.refused.ReadFault.{ReadFault}
 use Rattle.outside.specs.declared.refused.ReadFault.TheVariants.{Failed, TooLong, Memory}
 

@@ -1,12 +1,11 @@
 -- Writing one piece after another.
-use Rattle.std.proofs.Common.{arith, ◌≡◌, ◌≤◌, ℕ, ◌+◌, List, [], ◌++◌, length, take, drop, Option, refl, sym, ap, ◌∙◌, subst, length-append, append-nil}
-use Rattle.std.proofs.lemmas.Grind.{common_steps}
+use Rattle.std.proofs.Common.{arith, ◌≡◌, ℕ, ◌+◌, List, [], ◌++◌, length, take, Option, refl, sym, ap, ◌∙◌, subst, length-append, append-nil}
 use Rattle.std.proofs.lemmas.List.{take-append-le}
 use Rattle.std.proofs.Math.Seq.{take-length, take-append-add}
 use Rattle.std.proofs.KnownBytes.{Appends-trans, Appends-nil}
 use Rattle.std.specs.Prelude.{Result, Ok, Err}
 use Rattle.std.specs.Io.KnownBytes.{Appends}
-use Rattle.outside.specs.Writing.{Takes, WritesAll}
+use Rattle.outside.specs.Writing.{WritesAll}
 
 -- what was written whole was appended
 pub appended : {E : Type 0} (a b : Option (List ℕ)) (bytes : List ℕ) → WritesAll {E = E} a b bytes (Ok tt) → Appends a b bytes

@@ -1,5 +1,3 @@
-use Rattle.std.proofs.Common.{rules}
-use Rattle.mrp_types.specs.Places.{place_lt, IsInOneOrder}
 use Rattle.mrp_types.proofs.PlaceOrder.{in_one_order}
 use Rattle.mrp_types.proofs.place.places_are_in_one_order.Goals as goal
 

@@ -1,5 +1,4 @@
 use Rattle.std.proofs.Common.{arith, ◌≡◌, ◌≤◌, length, drop}
-use Rattle.std.proofs.lemmas.Grind.{common_steps}
 use Rattle.outside.proofs.Pieces.{front_moved, none_left, all_of_rest}
 use Rattle.outside.proofs.memory.MemSourceSource.read.Goals as goal
 
