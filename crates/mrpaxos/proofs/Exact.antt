@@ -62,7 +62,7 @@ stands_after : (before : List Line) (line : Line) (node : NodeId) →
     position one_ring (before ++ line ∷ []) node ≡ position_after (λ (p : Place). p.inst) node (position one_ring before node) line
 stands_after before line node = position_from-append (λ (p : Place). p.inst) node 0 before (line ∷ [])
 
-same_node : (a b : NodeId) → a.0 ≡ b.0 → a ≡ b
+pub same_node : (a b : NodeId) → a.0 ≡ b.0 → a ≡ b
 same_node a b is =
     let made : ℕ → NodeId = λ n. record { 0 = n } in
     ap made is

@@ -16,6 +16,7 @@ use Rattle.mrpaxos.specs.Order.{one_ring}
 use Rattle.mrpaxos.specs.Learner.{Learner, Learned, ready, learning, holds, after_line}
 use Rattle.mrpaxos.proofs.Exact.{ring_0, Next, IsExactAfter}
 use Rattle.mrpaxos.proofs.Values.{IsOf, one_of, LineOf, book_is, book_has, HeldOf, LearnerOf, held_more, held_insert}
+use Rattle.mrp_types.proofs.TestLemmas.{both}
 
 -- ---- deliveries that are ready
 
@@ -68,10 +69,6 @@ stands_apart before node other inst differs =
 stands_learned : (before : List Line) (node other : NodeId) (lo hi : ℕ) (value : Value) →
     position one_ring (before ++ Learn node ring_0 lo hi value ∷ []) other ≡ position one_ring before other
 stands_learned before node other lo hi value = position_from-append (λ p. p.inst) other 0 before (Learn node ring_0 lo hi value ∷ [])
-
-both : (a b : Bool) → (a && b) ≡ true → (a ≡ true) × (b ≡ true)
-both true b h = (refl, h)
-both false b h = absurd (grind arith)
 
 by_ready : (t : Bool) (values : List (List ℕ)) (before : List Line) (node : NodeId) (next : ℕ) (e : ℕ × Value) (later : List (ℕ × Value)) →
     ((e.0 == next) && nat_lt next END) ≡ t → position one_ring before node ≡ next → AllByRecursion (HeldOf values before) (e ∷ later) →

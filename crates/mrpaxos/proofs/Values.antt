@@ -23,6 +23,7 @@ use Rattle.mrpaxos.specs.declared.frame.Body.TheVariants.{Submit, Accept, Decide
 use Rattle.mrpaxos.specs.Order.{one_ring}
 use Rattle.mrpaxos.specs.Learner.{Learner}
 use Rattle.mrpaxos.proofs.Exact.{ring_0}
+use Rattle.mrp_types.proofs.TestLemmas.{both}
 
 -- a value is the batch that was proposed at an instance
 pub record IsOf (values : List (List ℕ)) (inst : ℕ) (value : Value) : Type 0 where
@@ -62,10 +63,6 @@ lines_more values more (line ∷ lines) are = (line_more values more line are.0,
 pub lines_append : (values : List (List ℕ)) (xs ys : List Line) → AllByRecursion (LineOf values) xs → AllByRecursion (LineOf values) ys → AllByRecursion (LineOf values) (xs ++ ys)
 lines_append values [] ys first second = second
 lines_append values (x ∷ xs) ys first second = (first.0, lines_append values xs ys first.1 second)
-
-both : (a b : Bool) → (a && b) ≡ true → (a ≡ true) × (b ≡ true)
-both true b h = (refl, h)
-both false b h = absurd (grind arith)
 
 -- a learning that covers an instance of a range of one is of that instance
 covered : (lo inst : ℕ) → nat_le lo inst ≡ true → nat_lt inst (lo + 1) ≡ true → lo ≡ inst

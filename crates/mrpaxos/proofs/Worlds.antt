@@ -25,7 +25,7 @@ use Rattle.mrpaxos.specs.Ring.{successor, has_bit, with_bit}
 use Rattle.mrpaxos.specs.Learner.{Learner, Learned, learning}
 use Rattle.mrpaxos.specs.System.{World, Outcome, start, quiet, sends, request_of, request_cmp, learner_at, learner_or, learns, then_sends, votes, handles, delivers, and_then, moves_on, flows, asks, happens, lines_from, trace}
 use Rattle.mrpaxos.specs.Top.{KeepsRules}
-use Rattle.mrpaxos.proofs.Exact.{IsExactAfter, IsExactAfter-append, exact_is_faithful, in_turn}
+use Rattle.mrpaxos.proofs.Exact.{same_node, IsExactAfter, IsExactAfter-append, exact_is_faithful, in_turn}
 use Rattle.mrpaxos.proofs.Values.{IsOf, LineOf, lines_more, lines_append, BodyOf, FrameOf, frames_more, frames_push, frame_at, LearnerOf, held_more, held_values}
 use Rattle.mrpaxos.proofs.Sound.{Goes, learning_goes}
 
@@ -100,11 +100,6 @@ set_apart (x ∷ ls) (suc n) (suc m) l apart = set_apart ls n m l (λ same. apar
 
 set_length : (ls : List Learner) (n : ℕ) (l : Learner) → length (slice_set ls n l) ≡ length ls
 set_length ls n l = grind (arith, common_steps)
-
-same_node : (a b : NodeId) → a.0 ≡ b.0 → a ≡ b
-same_node a b is =
-    let made : ℕ → NodeId = λ n. record { 0 = n } in
-    ap made is
 
 learner_set : (values : List (List ℕ)) (before : List Line) (w : World) (node : NodeId) (l : Learned) → Sound values before w → node.0 < 3 → Goes values before node l →
     (other : NodeId) → LearnerOf values (before ++ l.lines) other (learner_or (slice_get (slice_set w.learners node.0 l.learner) other.0))

@@ -29,7 +29,3 @@ none_left r at n bytes is zero room =
 pub taken_further : (a b c : Option (List ℕ)) (bytes : List ℕ) (d n : ℕ) →
     Appends a b (take d bytes) → Appends b c (take n (drop d bytes)) → Appends a c (take (d + n) bytes)
 taken_further a b c bytes d n first second = rw take-add (Appends-trans a b c (take d bytes) (take n (drop d bytes)) first second)
-
--- the rest, cut at its own length
-pub all_of_rest : (d : ℕ) (bytes : List ℕ) → take (length bytes - d) (drop d bytes) ≡ drop d bytes
-all_of_rest d bytes = grind (arith, common_steps)

@@ -19,14 +19,12 @@ use Rattle.schedule.specs.declared.event.ScheduleEvent.{ScheduleEvent}
 use Rattle.schedule.specs.declared.event.ScheduleEvent.TheVariants.{Ask, Flow, Deliver}
 use Rattle.schedule.specs.Spelling.{event_words, command_words, IsEvent}
 use Rattle.schedule.specs.Reading.{event_of, ask_of, flow_of, deliver_of}
+use Rattle.mrp_types.proofs.TestLemmas.{not_above, at_most, some_is}
 
 -- ---- what is spelled is read
 
 below : (n limit : ℕ) → n < limit → nat_lt n limit ≡ true
 below n limit less = grind arith
-
-not_above : (n limit : ℕ) → n ≤ limit → nat_lt limit n ≡ false
-not_above n limit most = grind arith
 
 not_zero : (n : ℕ) → 1 ≤ n → (n == 0) ≡ false
 not_zero n some = grind arith
@@ -86,14 +84,11 @@ ask_was words event h =
     keyword_was (codes "append") client.1 two.0 two.1
     ∙ ap (λ (ws : List (List ℕ)). codes "append" ∷ ws) (keyword_was (codes "0") two.0.1 three.0 three.1
     ∙ ap (λ (ws : List (List ℕ)). codes "0" ∷ ws) (hex.spelled ∙ ap (λ (ws : List (List ℕ)). hex_text value.0 ∷ ws) (end_was value.1 five.0 five.1))) in
-    let short : length value.0 ≤ 2048 = at_most (length value.0) last.0 in
+    let short : length value.0 ≤ 2048 = at_most (length value.0) 2048 last.0 in
     subst (λ (e : ScheduleEvent). Was (codes "ask" ∷ words) e) last.1 (record {
       spelled = rw (decimal_digit 0 (lit< tt)) (ap (λ (ws : List (List ℕ)). codes "ask" ∷ ws) (number.0.spelled ∙ ap (λ (ws : List (List ℕ)). decimal client.0 ∷ ws) rest));
       is = (number.1, (refl, short, hex.bytes));
     })
-  where
-    at_most : (n : ℕ) → nat_lt 2048 n ≡ false → n ≤ 2048
-    at_most n h = grind arith
 
 pub flow_was : (words : List (List ℕ)) (event : ScheduleEvent) → flow_of words ≡ Some event → Was (codes "flow" ∷ words) event
 unfolding flow_of
@@ -112,9 +107,6 @@ flow_was words event h =
   where
     above : (n : ℕ) → (n == 0) ≡ false → 1 ≤ n
     above n h = grind arith
-
-some_is : {A : Type 0} (x y : A) → Some x ≡ Some y → x ≡ y
-some_is x y h = cc
 
 pub deliver_was : (words : List (List ℕ)) (event : ScheduleEvent) → deliver_of words ≡ Some event → Was (codes "deliver" ∷ words) event
 unfolding deliver_of

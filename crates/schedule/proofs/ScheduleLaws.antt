@@ -18,6 +18,7 @@ use Rattle.schedule.specs.declared.event.ScheduleEvent.TheVariants.{Ask, Flow, D
 use Rattle.schedule.specs.Spelling.{event_words, schedule_text, IsEvent, IsSchedule}
 use Rattle.schedule.specs.Reading.{event_of, events_at, events_of, bounded, schedule_of}
 use Rattle.schedule.proofs.EventLaws.{event_read, event_was, Was}
+use Rattle.mrp_types.proofs.TestLemmas.{both, some_is, not_above, at_most}
 
 -- ---- a line has no line feed, its words have no space
 
@@ -25,10 +26,6 @@ use Rattle.schedule.proofs.EventLaws.{event_read, event_was, Was}
 all_high : List ℕ → Bool
 all_high [] = true
 all_high (b ∷ bytes) = nat_le 45 b && all_high bytes
-
-both : (a b : Bool) → (a && b) ≡ true → (a ≡ true) × (b ≡ true)
-both true b h = (refl, h)
-both false b h = absurd (grind arith)
 
 high : (b byte : ℕ) → nat_le 45 b ≡ true → byte < 45 → b ≢ byte
 high b byte test low = λ same. grind arith
@@ -118,9 +115,6 @@ pub record LinesWere (lines : List (List ℕ)) (events : List ScheduleEvent) : T
   pub spelled : lines ≡ event_lines events
   pub each : AllByRecursion IsEvent events
 
-some_is : {A : Type 0} (x y : A) → Some x ≡ Some y → x ≡ y
-some_is x y h = cc
-
 lines_were : (lines : List (List ℕ)) (events : List ScheduleEvent) → events_at lines ≡ Some events → LinesWere lines events
 lines_were [] events h = subst (λ (es : List ScheduleEvent). LinesWere [] es) (some_is [] events h) (record { spelled = refl; each = tt })
 lines_were (line ∷ lines) events h =
@@ -150,12 +144,6 @@ events_were bytes events h =
     }
 
 -- ---- the whole
-
-not_above : (n limit : ℕ) → n ≤ limit → nat_lt limit n ≡ false
-not_above n limit most = grind arith
-
-at_most : (n limit : ℕ) → nat_lt limit n ≡ false → n ≤ limit
-at_most n limit test = grind arith
 
 pub schedule_read : (bytes : List ℕ) (events : List ScheduleEvent) → IsSchedule bytes events → bounded (events_of bytes) ≡ Some events
 schedule_read bytes events is =

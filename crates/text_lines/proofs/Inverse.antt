@@ -16,6 +16,7 @@ use Rattle.hex.proofs.HexLemmas.{decode_of-encode_lower, decode_of-ok, length-en
 use Rattle.text_lines.specs.Text.{hex_text}
 use Rattle.text_lines.specs.Reading.{◌>>=◌, number_of, hex_of, decoded}
 use Rattle.text_lines.proofs.Laws.{Lacks}
+use Rattle.mrp_types.proofs.TestLemmas.{both, below}
 
 -- ---- steps of reading
 
@@ -36,10 +37,6 @@ pub else_was : {A : Type 0} (t : Bool) (x y : A) → (if t then None else Some x
 else_was true x y h = absurd (grind arith)
 else_was false x y h = (refl, cc)
 
-both : (a b : Bool) → (a && b) ≡ true → (a ≡ true) × (b ≡ true)
-both true b h = (refl, h)
-both false b h = absurd (grind arith)
-
 -- ---- numbers
 
 pub number_of_decimal : (n : ℕ) → n < 2 ^ 64 → number_of (decimal n) ≡ Some n
@@ -57,9 +54,6 @@ decimal_of_number word n h =
     let is : v ≡ n = was.1 in
     let small : v < 2 ^ 64 = below v (2 ^ 64) tests.0 in
     (sym ((bytes_eq-Decides (decimal v) word).0 tests.1) ∙ ap decimal is, subst (λ (k : ℕ). k < 2 ^ 64) is small)
-  where
-    below : (a b : ℕ) → nat_lt a b ≡ true → a < b
-    below a b h = grind arith
 
 -- ---- bytes
 

@@ -8,13 +8,7 @@ use Rattle.std.specs.Fmt.{decimal}
 use Rattle.text_lines.specs.Reading.{number_of, end_at}
 use Rattle.text_lines.specs.Split.{words_of, place_of}
 use Rattle.text_lines.proofs.Places.{words_of_at, words_at}
-
-both : (a b : Bool) → (a && b) ≡ true → (a ≡ true) × (b ≡ true)
-both true b h = (refl, h)
-both false b h = absurd (grind arith)
-
-below : (a b : ℕ) → nat_lt a b ≡ true → a < b
-below a b h = grind arith
+use Rattle.mrp_types.proofs.TestLemmas.{both, below}
 
 chosen : (n : ℕ) (t : Bool) → (t ≡ true → ⊥) → (if t then Some n else None) ≡ None
 chosen n true never = absurd (never refl)

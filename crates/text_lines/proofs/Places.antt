@@ -85,10 +85,6 @@ pub words_of_at : (bytes : List ℕ) → words_of bytes ≡ words_at bytes (plac
 words_of_at [] = refl
 words_of_at (b ∷ rest) = word_test b rest (b == 32) (words_of_at rest)
 
--- the rest, cut at its own length
-pub all_of_rest : (d : ℕ) (bytes : List ℕ) → take (length bytes - d) (drop d bytes) ≡ drop d bytes
-all_of_rest d bytes = grind (arith, common_steps)
-
 -- the lines where the first line is known
 abbrev pub lines_at : List ℕ → Option (List ℕ × List ℕ) → Option (List (List ℕ))
 lines_at [] None = Some []

@@ -8,6 +8,7 @@ use Rattle.hex.specs.Hex.{IsBytes}
 use Rattle.text_lines.specs.Text.{hex_text}
 use Rattle.text_lines.specs.Reading.{◌>>=◌, word_at, keyword_at, number_at, number_below, hex_at, end_at, number_of, hex_of}
 use Rattle.text_lines.proofs.Inverse.{bound, then_was, decimal_of_number, text_of_hex}
+use Rattle.mrp_types.proofs.TestLemmas.{some_is, below}
 
 abbrev pub back : Option (List ℕ × List (List ℕ)) → List (List ℕ)
 back None = []
@@ -29,9 +30,6 @@ pub record NumberWas (words : List (List ℕ)) (x : ℕ × List (List ℕ)) : Ty
   pub spelled : words ≡ decimal x.0 ∷ x.1
   pub fits : x.0 < 2 ^ 64
 
-some_is : {A : Type 0} (x y : A) → Some x ≡ Some y → x ≡ y
-some_is x y h = cc
-
 pub number_was : (words : List (List ℕ)) (x : ℕ × List (List ℕ)) → number_at words ≡ Some x → NumberWas words x
 number_was words x h =
     let step = bound (word_at words) (λ (w : List ℕ × List (List ℕ)). number_of w.0 >>= λ n. Some (n, w.1)) x h in
@@ -52,9 +50,6 @@ number_below_was limit words x h =
     let was = then_was (nat_lt n.0 limit) n x step.2 in
     let less : n.0 < limit = below n.0 limit was.0 in
     (subst (λ (y : ℕ × List (List ℕ)). NumberWas words y) was.1 (number_was words n step.1), subst (λ (y : ℕ × List (List ℕ)). y.0 < limit) was.1 less)
-  where
-    below : (a b : ℕ) → nat_lt a b ≡ true → a < b
-    below a b h = grind arith
 
 pub record HexWas (words : List (List ℕ)) (x : List ℕ × List (List ℕ)) : Type 0 where
   pub spelled : words ≡ hex_text x.0 ∷ x.1

@@ -1,6 +1,6 @@
 //! Lists of lines.
 
-ghost use Rattle.std.specs.Prelude.{◌≡◌, ◌++◌, [], ◌∷◌, OnOk};
+ghost use Rattle.std.specs.Prelude.{◌≡◌, ◌++◌, [], ◌∷◌, OnOk, OnErr};
 
 use crate::Line;
 use mrp_types::Memory;
@@ -32,9 +32,10 @@ impl Lines {
         }
     }
 
-    /// Adds a line at the end.
+    /// Adds a line at the end; without memory nothing is added.
     pub fn push(&mut self, line: Line) -> Result<(), Memory>
-        ensures { OnOk result (self.new ≡ self.old ++ line ∷ []) }
+        ensures ok { OnOk result (self.new ≡ self.old ++ line ∷ []) }
+        ensures err { OnErr result (self.new ≡ self.old) }
     {
         self.items.push(line)?;
         Ok(())

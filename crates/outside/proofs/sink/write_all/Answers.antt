@@ -1,7 +1,8 @@
 use Rattle.std.proofs.Common.{arith, ◌<◌, length, drop}
 use Rattle.std.proofs.lemmas.Grind.{common_steps}
-use Rattle.outside.proofs.Pieces.{taken_further, all_of_rest}
+use Rattle.outside.proofs.Pieces.{taken_further}
 use Rattle.outside.proofs.sink.write_all.Goals as goal
+use Rattle.mrp_types.proofs.TestLemmas.{all_of_rest}
 
 pub loop-turn-preserved : goal.loop-turn-preserved
 loop-turn-preserved g c =

@@ -1,8 +1,9 @@
 use Rattle.std.proofs.Common.{arith, sym, ◌∙◌, ap, ◌≡◌, ◌+◌, ◌-◌, length, take, drop, Some, None, List, ℕ}
 use Rattle.std.proofs.lemmas.Grind.{common_steps}
 use Rattle.std.specs.Option.{option_map}
-use Rattle.text_lines.proofs.Places.{first_line_at, cut_at, all_of_rest}
+use Rattle.text_lines.proofs.Places.{first_line_at, cut_at}
 use Rattle.text_lines.proofs.find.split_line.Goals as goal
+use Rattle.mrp_types.proofs.TestLemmas.{all_of_rest}
 
 pub returns-in_err-end : goal.returns-in_err-end
 returns-in_err-end c =

@@ -1,6 +1,7 @@
 use Rattle.std.proofs.Common.{sym, ◌∙◌, ap, ◌+◌}
-use Rattle.text_lines.proofs.Places.{words_of_at, words_at, all_of_rest}
+use Rattle.text_lines.proofs.Places.{words_of_at, words_at}
 use Rattle.text_lines.proofs.words.split_word.Goals as goal
+use Rattle.mrp_types.proofs.TestLemmas.{all_of_rest}
 
 pub returns-in_default : goal.returns-in_default
 returns-in_default c =

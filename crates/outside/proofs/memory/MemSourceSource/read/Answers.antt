@@ -1,6 +1,7 @@
 use Rattle.std.proofs.Common.{arith, ◌≡◌, ◌≤◌, length, drop}
-use Rattle.outside.proofs.Pieces.{front_moved, none_left, all_of_rest}
+use Rattle.outside.proofs.Pieces.{front_moved, none_left}
 use Rattle.outside.proofs.memory.MemSourceSource.read.Goals as goal
+use Rattle.mrp_types.proofs.TestLemmas.{all_of_rest}
 
 pub returns-clause-bytes : goal.returns-clause-bytes
 returns-clause-bytes c =
