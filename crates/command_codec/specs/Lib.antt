@@ -4,3 +4,4 @@ pub mod Valid
 pub mod Reader
 pub mod Grammar
 pub mod Replies
+pub mod Parts

@@ -1,5 +1,5 @@
 -- Fields read from the left: a value and what is left, or the first fault with its position.
-use Rattle.std.specs.Prelude.{ℕ, zero, suc, ◌≡◌, ◌+◌, ◌⊎◌, nat_lt, ◌==◌, if◌then◌else◌, Bool, List, [], ◌∷◌, length, take, drop, Result, Ok, Err}
+use Rattle.std.specs.Prelude.{ℕ, zero, suc, ◌≡◌, ◌+◌, ◌⊎◌, nat_lt, ◌==◌, if◌then◌else◌, Bool, true, false, List, [], ◌∷◌, length, take, drop, Option, Some, None, Result, Ok, Err}
 use Rattle.std.specs.Int.{Width, w16, byte_len, from_be_bytes}
 use Rattle.command_codec.specs.declared.fault.CodecFault.{CodecFault}
 use Rattle.command_codec.specs.declared.fault.CodecFault.TheVariants.{Short, BadField, TooLong, Left, Memory}
@@ -34,6 +34,20 @@ Reads view read (Err fault) left = Fails read fault
 abbrev pub Says : {X Y : Type 0} → (X → Y) → Result Y CodecFault → Result X CodecFault → Type 0
 Says view read (Ok x) = read ≡ Ok (view x)
 Says view read (Err fault) = Fails read fault
+
+-- the same of a call that keeps nothing: whether something was read
+abbrev pub passed : {V : Type 0} → Result (V × Spot) CodecFault → Option Spot
+passed (Ok x) = Some x.1
+passed (Err fault) = None
+
+abbrev pub Passes : {V : Type 0} → Result (V × Spot) CodecFault → Bool → Spot → Type 0
+Passes read true left = passed read ≡ Some left
+Passes read false left = passed read ≡ None
+
+-- a call that takes no memory wants none
+abbrev pub WantsNone : {X : Type 0} → Result X CodecFault → Type 0
+WantsNone (Ok x) = Unit {0}
+WantsNone (Err fault) = fault ≡ Memory → ⊥
 
 -- ---- fields
 

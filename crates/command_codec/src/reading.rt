@@ -1,8 +1,8 @@
 //! Fields from the left of bytes: numbers are big-endian.
 
-ghost use Rattle.std.specs.Prelude.{◌≡◌, ◌≤◌, length, IfOk};
+ghost use Rattle.std.specs.Prelude.{◌≡◌, ◌≤◌, ◌==◌, length, IfOk};
 ghost use Rattle.std.specs.Int.{w16, w32, w64, from_be_bytes};
-ghost use Rattle.command_codec.specs.Reader.{Reads, Says, start, byte_at, bytes_at, number_at, within, length_at, string_at, ended};
+ghost use Rattle.command_codec.specs.Reader.{Reads, Says, WantsNone, start, byte_at, bytes_at, number_at, within, length_at, string_at, ended};
 
 use crate::CodecFault;
 use mrp_types::Octets;
@@ -46,6 +46,7 @@ impl<'a> Cursor<'a> {
     #[tactic(auto, unfolding(crate::specs::Reader::bytes_at))]
     pub fn bytes(&mut self, count: usize) -> Result<&'a [u8], CodecFault>
         ensures exact { Reads (λ x. x.now) (bytes_at count self.old) result self.new }
+        ensures sure { WantsNone result }
         ensures count { IfOk result (λ x. length x.now ≡ count) }
     {
         if self.rest.len() < count {
@@ -59,7 +60,8 @@ impl<'a> Cursor<'a> {
 
     /// The next byte.
     pub fn byte(&mut self) -> Result<u8, CodecFault>
-        ensures { Reads (λ n. n) (byte_at self.old) result self.new }
+        ensures exact { Reads (λ n. n) (byte_at self.old) result self.new }
+        ensures sure { WantsNone result }
     {
         let [byte, rest @ ..] = self.rest else {
             return Err(CodecFault::Short(self.at));
@@ -75,6 +77,7 @@ impl<'a> Cursor<'a> {
     pub fn byte_within(&mut self, least: u8, most: u8) -> Result<u8, CodecFault>
         ensures exact { Reads (λ n. n) (within least most byte_at self.old) result self.new }
         ensures range { IfOk result (λ n. n ≤ most) }
+        ensures least { IfOk result (λ n. least ≤ n) }
     {
         let at = self.at();
         let number = self.byte()?;
@@ -90,7 +93,8 @@ impl<'a> Cursor<'a> {
     /// The next two bytes as a number.
     #[tactic(auto, unfolding(crate::specs::Reader::number_at))]
     pub fn u16(&mut self) -> Result<u16, CodecFault>
-        ensures { Reads (λ n. n) (number_at w16 self.old) result self.new }
+        ensures exact { Reads (λ n. n) (number_at w16 self.old) result self.new }
+        ensures sure { WantsNone result }
     {
         Ok(number16(self.bytes(2)?))
     }
@@ -98,7 +102,8 @@ impl<'a> Cursor<'a> {
     /// The next two bytes as a number, which has to be in this range, both ends included.
     #[tactic(auto, unfolding(crate::specs::Reader::within))]
     pub fn u16_within(&mut self, least: u16, most: u16) -> Result<u16, CodecFault>
-        ensures { Reads (λ n. n) (within least most (number_at w16) self.old) result self.new }
+        ensures exact { Reads (λ n. n) (within least most (number_at w16) self.old) result self.new }
+        ensures sure { WantsNone result }
     {
         let at = self.at();
         let number = self.u16()?;
@@ -122,7 +127,8 @@ impl<'a> Cursor<'a> {
     /// The next eight bytes as a number.
     #[tactic(auto, unfolding(crate::specs::Reader::number_at))]
     pub fn u64(&mut self) -> Result<u64, CodecFault>
-        ensures { Reads (λ n. n) (number_at w64 self.old) result self.new }
+        ensures exact { Reads (λ n. n) (number_at w64 self.old) result self.new }
+        ensures sure { WantsNone result }
     {
         Ok(number64(self.bytes(8)?))
     }
@@ -130,7 +136,9 @@ impl<'a> Cursor<'a> {
     /// The next eight bytes as a number, which has to be in this range, both ends included.
     #[tactic(auto, unfolding(crate::specs::Reader::within))]
     pub fn u64_within(&mut self, least: u64, most: u64) -> Result<u64, CodecFault>
-        ensures { Reads (λ n. n) (within least most (number_at w64) self.old) result self.new }
+        ensures exact { Reads (λ n. n) (within least most (number_at w64) self.old) result self.new }
+        ensures sure { WantsNone result }
+        ensures range { IfOk result (λ n. n ≤ most) }
     {
         let at = self.at();
         let number = self.u64()?;
@@ -146,7 +154,8 @@ impl<'a> Cursor<'a> {
     /// A length of two bytes: one below `least` is a bad field, one past `most` is too long.
     #[tactic(auto, unfolding(crate::specs::Reader::length_at))]
     pub fn length(&mut self, least: usize, most: usize) -> Result<usize, CodecFault>
-        ensures { Reads (λ n. n) (length_at least most self.old) result self.new }
+        ensures exact { Reads (λ n. n) (length_at least most self.old) result self.new }
+        ensures sure { WantsNone result }
     {
         let at = self.at();
         let number = usize::from(self.u16()?);
@@ -162,7 +171,8 @@ impl<'a> Cursor<'a> {
     /// A length of two bytes from `least` to `most`, and that many bytes.
     #[tactic(auto, unfolding(crate::specs::Reader::string_at))]
     pub fn string(&mut self, least: usize, most: usize) -> Result<&'a [u8], CodecFault>
-        ensures { Reads (λ x. x.now) (string_at least most self.old) result self.new }
+        ensures exact { Reads (λ x. x.now) (string_at least most self.old) result self.new }
+        ensures sure { WantsNone result }
     {
         let count = self.length(least, most)?;
         self.bytes(count)
@@ -174,6 +184,13 @@ impl<'a> Cursor<'a> {
     {
         let bytes = self.string(least, most)?;
         Ok(Octets::from_slice(alloc, bytes)?)
+    }
+
+    /// Whether nothing is left.
+    pub fn is_at_end(&self) -> bool
+        ensures { result ≡ (length self.now.rest == 0) }
+    {
+        self.rest.is_empty()
     }
 
     /// Asks that nothing is left.

@@ -1,5 +1,8 @@
+use super::parts::{read_ballot, read_inst, read_range, read_ring, read_value};
+use super::reading::Cursor;
+use super::writing::{put_u32, put_value};
 use super::*;
-use mrp_types::{ClientId, Entry, LogId, Octets};
+use mrp_types::{ClientId, END, Entry, LogId, Octets, RingId, Value};
 use std::alloc::Global;
 use std::test::*;
 
@@ -236,5 +239,109 @@ fn what_has_no_spelling(rt: HostRuntime) -> Result<(), Fail> {
         command: Octets::new(alloc),
     };
     assert!(rt; !entry.is_valid());
+    Ok(())
+}
+
+#[test]
+fn bytes_that_are_a_batch(rt: HostRuntime) {
+    let rows: [(&[u8], bool); 9] = [
+        (&[1, 0, 1, 0, 0, 0, 0, 0, 0, 0, 0, 1, 0, 1, 97], true),
+        (
+            &[1, 0, 1, 0, 127, 255, 255, 255, 255, 255, 255, 255, 0, 0],
+            true,
+        ),
+        (&[], false),
+        (&[0], false),
+        (&[1, 0, 0], false),
+        (&[1, 0, 2, 0, 0, 0, 0, 0, 0, 0, 0, 1, 0, 0], false),
+        (&[1, 0, 1, 0, 0, 0, 0, 0, 0, 0, 0, 0, 0, 0], false),
+        (&[1, 0, 1, 0, 0, 0, 0, 0, 0, 0, 0, 1, 16, 1], false),
+        (&[1, 0, 1, 0, 0, 0, 0, 0, 0, 0, 0, 1, 0, 0, 7], false),
+    ];
+    for (bytes, want) in rows {
+        assert_eq!(rt; is_batch(bytes), want, "{bytes:?}");
+        assert_eq!(rt; read_batch(rt.alloc(), bytes).is_ok(), want, "{bytes:?}");
+    }
+}
+
+#[test]
+fn rings_ballots_and_instances(rt: HostRuntime) {
+    let ring = read_ring(&mut Cursor::new(&[15]));
+    assert_eq!(rt; ring, Ok(RingId(15)));
+    let ring = read_ring(&mut Cursor::new(&[16]));
+    assert_eq!(rt; ring, Err(CodecFault::BadField(0)));
+    let rows = [
+        ([0, 0, 0, 0, 0, 0, 0, 0], Ok(0), Ok(0)),
+        ([0, 0, 0, 255, 255, 255, 255, 255], Ok(END - 1), Ok(END - 1)),
+        (
+            [0, 0, 1, 0, 0, 0, 0, 0],
+            Ok(END),
+            Err(CodecFault::BadField(0)),
+        ),
+        (
+            [0, 1, 0, 0, 0, 0, 0, 0],
+            Err(CodecFault::BadField(0)),
+            Err(CodecFault::BadField(0)),
+        ),
+    ];
+    for (bytes, ballot, inst) in rows {
+        assert_eq!(rt; read_ballot(&mut Cursor::new(&bytes)), ballot, "{bytes:?}");
+        assert_eq!(rt; read_inst(&mut Cursor::new(&bytes)), inst, "{bytes:?}");
+    }
+}
+
+#[test]
+fn ranges_of_instances(rt: HostRuntime) {
+    let end = [0, 0, 1, 0, 0, 0, 0, 0];
+    for (lo, hi, least, want) in [
+        (3, 4, 3, Ok((3, 4))),
+        (3, 4, 4, Err(CodecFault::BadField(0))),
+        (3, 3, 0, Err(CodecFault::BadField(8))),
+        (3, 2, 0, Err(CodecFault::BadField(8))),
+    ] {
+        let bytes = [0, 0, 0, 0, 0, 0, 0, lo, 0, 0, 0, 0, 0, 0, 0, hi];
+        let range = read_range(&mut Cursor::new(&bytes), least);
+        assert_eq!(rt; range, want, "{lo} to {hi}");
+    }
+    let mut fields = Cursor::new(&end);
+    assert_eq!(rt; read_range(&mut fields, 0), Err(CodecFault::BadField(0)));
+    let mut fields = Cursor::new(&end[..7]);
+    assert_eq!(rt; read_range(&mut fields, 0), Err(CodecFault::Short(0)));
+}
+
+const ONE: [u8; 17] = [0, 15, 1, 0, 1, 0, 0, 0, 0, 0, 0, 0, 0, 1, 0, 1, 97];
+
+#[test]
+fn values_where_they_may_stand(rt: HostRuntime) -> Result<(), Fail> {
+    let alloc = rt.alloc();
+    let skip: [u8; 3] = [0, 1, 0];
+    let rows: [(&[u8], bool, bool, Option<CodecFault>); 9] = [
+        (&skip, true, true, None),
+        (&skip, true, false, None),
+        (&skip, false, true, Some(CodecFault::BadField(2))),
+        (&ONE, false, true, None),
+        (&ONE, true, false, Some(CodecFault::BadField(2))),
+        (&[0, 1, 1], true, true, Some(CodecFault::BadField(2))),
+        (&[0, 0], true, true, Some(CodecFault::BadField(0))),
+        (&[32, 1], true, true, Some(CodecFault::TooLong(0))),
+        (&ONE[..16], true, true, Some(CodecFault::Short(2))),
+    ];
+    for (bytes, skips, alone, fault) in rows {
+        let mut fields = Cursor::new(bytes);
+        match read_value(alloc, &mut fields, skips, alone) {
+            Ok(_) => assert!(rt; fault.is_none() && fields.is_at_end(), "{bytes:?}"),
+            Err(other) => assert_eq!(rt; Some(other), fault, "{bytes:?}"),
+        }
+    }
+    Ok(())
+}
+
+#[test]
+fn values_and_numbers_written(rt: HostRuntime) -> Result<(), Fail> {
+    let alloc = rt.alloc();
+    let mut out = Octets::new(alloc);
+    put_u32(&mut out, 0x0102_0304)?;
+    put_value(&mut out, &Value::Skip)?;
+    assert_eq!(rt; out.bytes(), [1, 2, 3, 4, 0, 1, 0].as_slice());
     Ok(())
 }

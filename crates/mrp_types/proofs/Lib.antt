@@ -1,2 +1,3 @@
 pub mod PlaceOrder
 pub mod TestLemmas
+pub mod TupleLemmas

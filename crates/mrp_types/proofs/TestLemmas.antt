@@ -1,5 +1,5 @@
 -- What tests and cuts say, for the proofs of all crates.
-use Rattle.std.proofs.Common.{arith, ◌≡◌, ◌<◌, ◌≤◌, ℕ, ◌+◌, ◌-◌, List, length, take, drop, Option, Some, refl, nat_lt, ◌&&◌, Bool, true, false}
+use Rattle.std.proofs.Common.{arith, ◌≡◌, ◌<◌, ◌≤◌, ℕ, ◌-◌, List, length, take, drop, Some, refl, nat_lt, ◌&&◌, Bool, true, false}
 use Rattle.std.proofs.lemmas.Grind.{common_steps}
 
 -- two tests that both hold

@@ -86,3 +86,71 @@ fn entries_in_range(rt: HostRuntime) -> Result<(), Fail> {
     }
     Ok(())
 }
+
+#[test]
+fn seats_in_order(rt: HostRuntime) {
+    let nodes = [NodeId(4), NodeId(0), NodeId(31)];
+    let seats = Seats::from_slice(&nodes);
+    let copy = seats;
+    assert_eq!(rt; copy.len(), 3);
+    assert_eq!(rt; copy.items(), nodes.as_slice());
+    for (position, want) in [
+        (0, Some(NodeId(4))),
+        (2, Some(NodeId(31))),
+        (3, None),
+        (7, None),
+        (255, None),
+    ] {
+        assert_eq!(rt; copy.at(position), want, "at {position}");
+    }
+    for (node, want) in [(4, Some(0)), (31, Some(2)), (1, None)] {
+        assert_eq!(rt; copy.position(NodeId(node)), want, "of {node}");
+    }
+    let full = Seats::from_slice(&[NodeId(1); 7]);
+    assert_eq!(rt; full.len(), 7);
+    assert!(rt; seats == copy && full != seats);
+}
+
+#[test]
+fn tuples_of_rings(rt: HostRuntime) {
+    let pairs = [(RingId(0), 7), (RingId(3), 0), (RingId(15), END)];
+    let tuple = Tuple::from_pairs(&pairs);
+    let copy = tuple;
+    assert_eq!(rt; copy.pairs(), pairs.as_slice());
+    let one = Tuple::from_pairs(&[(RingId(0), 7)]);
+    assert_eq!(rt; one.pairs(), &pairs[..1]);
+    assert!(rt; tuple == copy && one != tuple);
+}
+
+#[test]
+fn votes_and_decided_ranges(rt: HostRuntime) -> Result<(), Fail> {
+    let alloc = rt.alloc();
+    let mut votes = Votes::new(alloc);
+    let mut ranges = Ranges::new(alloc);
+    assert!(rt; votes.items().is_empty() && ranges.items().is_empty());
+    for (lo, hi, ballot) in [(0, 4, 1), (4, 5, 6)] {
+        let vote = Voted {
+            lo,
+            hi,
+            ballot,
+            value: Value::Batch(Payload::from_slice(alloc, b"ab")?),
+        };
+        votes.push(vote.share()?)?;
+        ranges.push(Decided {
+            lo,
+            hi,
+            value: vote.value,
+        })?;
+    }
+    let [first, second] = votes.items() else {
+        return Err("two votes".into());
+    };
+    assert_eq!(rt; (first.lo, first.hi, first.ballot), (0, 4, 1));
+    assert_eq!(rt; (second.lo, second.hi, second.ballot), (4, 5, 6));
+    let [_, last] = ranges.items() else {
+        return Err("two ranges".into());
+    };
+    assert_eq!(rt; (last.lo, last.hi), (4, 5));
+    assert!(rt; last.value.same(&second.value) && !last.value.same(&Value::Skip));
+    Ok(())
+}

@@ -1,20 +1,27 @@
 -- How a run ends.
-use Rattle.std.proofs.Common.{arith, ◌≡◌, ◌≤◌, ℕ, ◌+◌, inl, inr, List, [], ◌∷◌, ◌++◌, length, get_or, map, Option, Some, None, refl, sym, ap, ◌∙◌, subst, Bool, codes, length-append, append-nil, Ok, Err}
+use Rattle.std.proofs.Common.{arith, Bool, true, false, nat_lt, ◌⊎◌, ◌≡◌, ◌≤◌, ◌<◌, ℕ, inl, inr, List, [], ◌∷◌, ◌++◌, length, get_or, map, take, Option, Some, None, refl, sym, ap, ◌∙◌, subst, codes, append-nil, Ok, Err}
 use Rattle.std.proofs.lemmas.Grind.{common_steps}
+use Rattle.mrp_types.proofs.TestLemmas.{below}
 use Rattle.std.proofs.lemmas.Slice.Eq.{bytes_eq-Decides}
-use Rattle.std.proofs.KnownBytes.{Consumes-nil, Keeps-refl}
+use Rattle.std.proofs.KnownBytes.{Keeps-refl}
+use Rattle.std.proofs.Math.Seq.{take-append_seam}
 use Rattle.std.specs.Prelude.{IfSome, IsTrue, ◌↔◌}
 use Rattle.std.specs.Str.{bytes_eq}
 use Rattle.std.specs.Io.KnownBytes.{Consumes, IsAtEnd}
-use Rattle.outside.specs.Reading.{ReadsAll}
-use Rattle.outside.specs.declared.refused.ReadFault.TheVariants as fault
-use Rattle.schedule.specs.declared.event.ScheduleEvent.{ScheduleEvent}
-use Rattle.schedule.specs.Spelling.{IsSchedule}
-use Rattle.mrpaxos.specs.declared.top.Status.{Status}
-use Rattle.mrpaxos.specs.declared.top.Status.TheVariants.{Done, Usage, Input, Source, Sink, Memory}
-use Rattle.mrpaxos.specs.declared.top.InputFault.TheVariants as input
-use Rattle.mrpaxos.specs.declared.top.Which.TheVariants as which
-use Rattle.mrpaxos.specs.Top.{Ends, Says, Judged, IsReplay, IsNoSchedule, IsForSchedule, IsForNone, IsUntouched, IsWhole, Intake, Output}
+use Rattle.outside.specs.Reading.{ReadsFront}
+use Rattle.outside.specs.declared.refused.Refused.TheVariants.{Failed, Memory as NoMemory}
+use Rattle.mrp_config.specs.Config.{Config as Deployed}
+use Rattle.mrp_config.specs.Walk.{read_of}
+use Rattle.mrp_config.specs.declared.fault.ConfigFault.{ConfigFault}
+use Rattle.mrp_config.specs.declared.fault.ConfigFault.TheVariants.{TooLong}
+use Rattle.mrp_config.specs.declared.tables.RingTable.{RingTable}
+use Rattle.schedule.specs.Reading.{schedule_of}
+use Rattle.schedule.proofs.ScheduleLaws.{schedule_read}
+use Rattle.mrpaxos.specs.declared.status.Status.{Status}
+use Rattle.mrpaxos.specs.declared.status.Status.TheVariants.{Done, Usage, Config, Input, Source, Sink, Memory}
+use Rattle.mrpaxos.specs.declared.status.InputFault.TheVariants as input
+use Rattle.mrpaxos.specs.declared.status.Which.TheVariants as which
+use Rattle.mrpaxos.specs.Top.{IsReplay, Intake, Output, IsUnread, IsRead, HasFailed, IsCutShort, Judged, Entered, IsConfigured, Configured, Refuses, Ends, Answers}
 
 -- ---- the words
 
@@ -38,126 +45,162 @@ replay_if words word seen r is same tests = (
     heads : word ∷ [] ≡ codes "replay" ∷ [] → word ≡ codes "replay"
     heads e = cc
 
--- ---- the input
+-- ---- what was read
 
--- all of the input came where its end did
-whole_is : (before after : Option (List ℕ)) (came bytes : List ℕ) → Consumes before after came → IsAtEnd after → before ≡ Some bytes → came ≡ bytes
-whole_is None after came bytes took over told = absurd (grind arith)
-whole_is (Some xs) None came bytes took over told = absurd took
-whole_is (Some xs) (Some ys) came bytes took over told =
-    let same : xs ≡ bytes = cc in
-    sym (append-nil came) ∙ ap (λ (l : List ℕ). came ++ l) (sym over) ∙ sym took ∙ same
+pub unread : (left : Option (List ℕ)) (faults reads : ℕ) →
+    IsUnread (record { before = left; after = left; faults_before = faults; faults_after = faults; reads_before = reads; reads_after = reads })
+unread left faults reads = record { bytes = Keeps-refl left; faults = refl; reads = refl }
 
--- no less was there than came
-longer : (before after : Option (List ℕ)) (came bytes : List ℕ) → Consumes before after came → before ≡ Some bytes → length came ≤ length bytes
-longer None after came bytes took told = absurd (grind arith)
-longer (Some xs) None came bytes took told = absurd took
-longer (Some xs) (Some ys) came bytes took told =
-    let same : bytes ≡ came ++ ys = cc in
-    let long : length bytes ≡ length came + length ys = ap length same ∙ length-append came ys in
-    omega (arith, long)
+pub is_read : (most : ℕ) (intake : Intake) (bytes : List ℕ) →
+    ReadsFront most intake.before intake.after intake.faults_before intake.faults_after intake.reads_before intake.reads_after (Ok bytes) → IsRead most intake bytes
+is_read most intake bytes read =
+    let c = read.1 in
+    subst (λ (l : List ℕ). IsRead most intake l) (sym c.answer.0) (record {
+      came = record { consumed = c.consumed; stopped = c.stopped; reads = c.read };
+      whole = c.answer.1;
+      faults = c.answer.2;
+    })
+
+pub has_failed : (most : ℕ) (intake : Intake) →
+    ReadsFront most intake.before intake.after intake.faults_before intake.faults_after intake.reads_before intake.reads_after (Err Failed) → HasFailed most intake
+has_failed most intake read =
+    let c = read.1 in
+    record { bytes = read.0; came = record { consumed = c.consumed; stopped = c.stopped; reads = c.read }; faults = c.answer }
+
+pub cut_short : (most : ℕ) (intake : Intake) →
+    ReadsFront most intake.before intake.after intake.faults_before intake.faults_after intake.reads_before intake.reads_after (Err NoMemory) → IsCutShort most intake
+cut_short most intake read =
+    let c = read.1 in
+    record { bytes = read.0; came = record { consumed = c.consumed; stopped = c.stopped; reads = c.read }; faults = c.answer }
+
+-- ---- one layer after another
+
+pub enters : (status : Status) (config : Deployed) (ring : RingTable) (intake : Intake) (out : Output) (bytes : List ℕ) → IsRead 67108865 intake bytes →
+    Judged status config ring bytes out → Entered status config ring intake out
+enters Done config ring intake out bytes read says = (bytes, read, says)
+enters Usage config ring intake out bytes read says = says
+enters (Config f) config ring intake out bytes read says = says
+enters (Input f) config ring intake out bytes read says = (bytes, read, says)
+enters (Source which.Config) config ring intake out bytes read says = says
+enters (Source which.Input) config ring intake out bytes read says = absurd says
+enters Sink config ring intake out bytes read says = (bytes, read, says)
+enters Memory config ring intake out bytes read says = inr (bytes, read, says)
+
+pub configures : (status : Status) (bytes : List ℕ) (config : Deployed) (ring : RingTable) (intake : Intake) (out : Output) → IsConfigured bytes config ring →
+    Entered status config ring intake out → Configured status bytes intake out
+configures Done bytes config ring intake out is says = (config, ring, is, says)
+configures Usage bytes config ring intake out is says = (config, ring, is, says)
+configures (Config f) bytes config ring intake out is says = absurd says
+configures (Input f) bytes config ring intake out is says = (config, ring, is, says)
+configures (Source w) bytes config ring intake out is says = (config, ring, is, says)
+configures Sink bytes config ring intake out is says = (config, ring, is, says)
+configures Memory bytes config ring intake out is says = inr (config, ring, is, says)
+
+pub ends : (status : Status) (words : List (List ℕ)) (config intake : Intake) (out : Output) (bytes : List ℕ) → IsReplay words → IsRead 1048577 config bytes →
+    Configured status bytes intake out → Ends status words config intake out
+ends Done words config intake out bytes is read says = (is, (bytes, read, says))
+ends Usage words config intake out bytes is read says = absurd says.3
+ends (Config f) words config intake out bytes is read says = (is, (bytes, read, says))
+ends (Input f) words config intake out bytes is read says = (is, (bytes, read, says))
+ends (Source which.Config) words config intake out bytes is read says = absurd says.3
+ends (Source which.Input) words config intake out bytes is read says = (is, (bytes, read, says))
+ends Sink words config intake out bytes is read says = (is, (bytes, read, says))
+ends Memory words config intake out bytes is read says = (is, inr (bytes, read, says))
+
+-- ---- what is answered
+
+whole_front : (n : ℕ) (l : List ℕ) → length l ≤ n → take n l ≡ l
+whole_front n l fits = grind (arith, common_steps)
+
+-- what was read is the front of what there was
+front_is : (most : ℕ) (before after : Option (List ℕ)) (bytes all : List ℕ) → Consumes before after bytes → length bytes ≤ most →
+    (IsAtEnd after ⊎ (length bytes ≡ most)) → before ≡ Some all → take most all ≡ bytes
+front_is most None after bytes all took fits whole told = absurd (grind arith)
+front_is most (Some xs) None bytes all took fits whole told = absurd took
+front_is most (Some xs) (Some ys) bytes all took fits (inl over) told =
+    let same : all ≡ xs = cc in
+    let is : all ≡ bytes = same ∙ took ∙ ap (λ (l : List ℕ). bytes ++ l) over ∙ append-nil bytes in
+    ap (take most) is ∙ whole_front most bytes fits
+front_is most (Some xs) (Some ys) bytes all took fits (inr is) told =
+    let same : all ≡ xs = cc in
+    ap (take most) (same ∙ took) ∙ ap (λ n. take n (bytes ++ ys)) (sym is) ∙ take-append_seam bytes ys
+
+pub front_of : (most : ℕ) (intake : Intake) (bytes all : List ℕ) → IsRead most intake bytes → intake.before ≡ Some all → take most all ≡ bytes
+front_of most intake bytes all read told = front_is most intake.before intake.after bytes all read.came.consumed read.came.stopped read.whole told
+
+-- a configuration is read as its front is
+is_more : (a b : ℕ) → a < b → nat_lt a b ≡ true
+is_more a b more = grind arith
+
+no_more : (a b : ℕ) → nat_lt a b ≡ false → b ≤ a
+no_more a b h = grind arith
+
+front_length : (n : ℕ) (l : List ℕ) → n ≤ length l → length (take n l) ≡ n
+front_length n l more = grind (arith, common_steps)
+
+too_long : (bytes : List ℕ) → 1048576 < length bytes → read_of bytes ≡ Err TooLong
+too_long bytes more = rw (is_more 1048576 (length bytes) more) refl
+
+same_reading : (conf : List ℕ) → read_of (take 1048577 conf) ≡ read_of conf
+same_reading conf = by_length (nat_lt 1048577 (length conf)) refl
+  where
+    by_length : (b : Bool) → nat_lt 1048577 (length conf) ≡ b → read_of (take 1048577 conf) ≡ read_of conf
+    by_length true h =
+        let more : 1048577 < length conf = below 1048577 (length conf) h in
+        let front : length (take 1048577 conf) ≡ 1048577 = front_length 1048577 conf (omega (arith, more)) in
+        too_long (take 1048577 conf) (omega (arith, front)) ∙ sym (too_long conf (omega (arith, more)))
+    by_length false h = ap read_of (whole_front 1048577 conf (no_more 1048577 (length conf) h))
+
+read_is : (config : Intake) (bytes conf : List ℕ) → IsRead 1048577 config bytes → config.before ≡ Some conf → read_of conf ≡ read_of bytes
+read_is config bytes conf read told = sym (same_reading conf) ∙ ap read_of (front_of 1048577 config bytes conf read told)
+
+refuses_all : (config : Intake) (bytes conf : List ℕ) (fault : ConfigFault) → IsRead 1048577 config bytes → config.before ≡ Some conf → Refuses bytes fault → Refuses conf fault
+refuses_all config bytes conf fault read told (inl refused) = inl (read_is config bytes conf read told ∙ refused)
+refuses_all config bytes conf fault read told (inr p) = inr (p.0, (p.1.0, read_is config bytes conf read told ∙ p.1.1, p.1.2))
+
+configures_all : (config : Intake) (bytes conf : List ℕ) (c : Deployed) (ring : RingTable) → IsRead 1048577 config bytes → config.before ≡ Some conf → IsConfigured bytes c ring →
+    IsConfigured conf c ring
+configures_all config bytes conf c ring read told is = record { accepted = read_is config bytes conf read told ∙ is.accepted; built = is.built }
 
 if_told : (before : Option (List ℕ)) (P : List ℕ → Type 0) → ((bytes : List ℕ) → before ≡ Some bytes → P bytes) → IfSome before P
 if_told None P h = tt
 if_told (Some bytes) P h = h bytes refl
 
--- ---- the branches
+both_told : (config intake : Intake) (status : Status) → ((conf text : List ℕ) → config.before ≡ Some conf → intake.before ≡ Some text → Answers status conf text) →
+    IfSome config.before (λ conf. IfSome intake.before (λ text. Answers status conf text))
+both_told config intake status h = if_told config.before (λ conf. IfSome intake.before (λ text. Answers status conf text))
+    (λ conf told. if_told intake.before (λ text. Answers status conf text) (λ text said. h conf text told said))
 
-pub usage : (words : List (List ℕ)) (left taken : Option (List ℕ)) (f r g : ℕ) → (IsReplay words → ⊥) →
-    Ends Usage words (record { before = left; after = left; faults_before = f; faults_after = f; reads_before = r; reads_after = r })
-    (record { before = taken; after = taken; faults_before = g; faults_after = g })
-usage words left taken f r g other = (
-  [],
-  record { consumed = Consumes-nil left; stopped = omega arith; reads = omega arith },
-  (other, refl, refl, (Keeps-refl taken, refl)),
-)
+by_status : (status : Status) (words : List (List ℕ)) (config intake : Intake) (out : Output) (conf text : List ℕ) → Ends status words config intake out → IsReplay words →
+    config.before ≡ Some conf → intake.before ≡ Some text → Answers status conf text
+by_status Usage words config intake out conf text says is told said = absurd (says.0 is)
+by_status (Config f) words config intake out conf text says is told said =
+    let p = says.1 in
+    inr (refuses_all config p.0 conf f p.1 told p.2.0)
+by_status Done words config intake out conf text says is told said =
+    let p = says.1 in
+    let q = p.2 in
+    let r = q.3 in
+    let front : take 67108865 text ≡ r.0 = front_of 67108865 intake r.0 text r.1 said in
+    inr (q.0, q.1, configures_all config p.0 conf q.0 q.1 p.1 told q.2, (r.2.0, ap (schedule_of q.0) front ∙ schedule_read q.0 r.0 r.2.0 r.2.1.schedule))
+by_status (Input (input.Schedule f)) words config intake out conf text says is told said =
+    let p = says.1 in
+    let q = p.2 in
+    let r = q.3 in
+    let front : take 67108865 text ≡ r.0 = front_of 67108865 intake r.0 text r.1 said in
+    inr (q.0, q.1, configures_all config p.0 conf q.0 q.1 p.1 told q.2, ap (schedule_of q.0) front ∙ r.2.0)
+by_status (Source w) words config intake out conf text says is told said = inl tt
+by_status Sink words config intake out conf text says is told said = inl tt
+by_status Memory words config intake out conf text says is told said = inl tt
 
-pub source : (words : List (List ℕ)) (intake : Intake) (out : Output) → IsReplay words → IsUntouched out →
-    ReadsAll 67108864 intake.before intake.after intake.faults_before intake.faults_after intake.reads_before intake.reads_after (Err fault.Failed) →
-    Ends (Source which.Input) words intake out
-source words intake out is untouched read = (
-  read.0,
-  record { consumed = read.1.consumed; stopped = read.1.stopped; reads = read.1.read },
-  (is, read.1.answer, untouched),
-)
+pub answers : (status : Status) (words : List (List ℕ)) (config intake : Intake) (out : Output) → Ends status words config intake out → IsReplay words →
+    IfSome config.before (λ conf. IfSome intake.before (λ text. Answers status conf text))
+answers status words config intake out says is =
+    both_told config intake status (λ conf text told said. by_status status words config intake out conf text says is told said)
 
-pub too_long : (words : List (List ℕ)) (intake : Intake) (out : Output) → IsReplay words → IsUntouched out →
-    ReadsAll 67108864 intake.before intake.after intake.faults_before intake.faults_after intake.reads_before intake.reads_after (Err fault.TooLong) →
-    Ends (Input input.Unread) words intake out
-too_long words intake out is untouched read = (
-  read.0,
-  record { consumed = read.1.consumed; stopped = read.1.stopped; reads = read.1.read },
-  (is, inr (read.1.answer.0, read.1.answer.1, untouched)),
-)
-
-pub no_memory : (words : List (List ℕ)) (intake : Intake) (out : Output) → IsReplay words → IsUntouched out →
-    ReadsAll 67108864 intake.before intake.after intake.faults_before intake.faults_after intake.reads_before intake.reads_after (Err fault.Memory) →
-    Ends Memory words intake out
-no_memory words intake out is untouched read = (
-  read.0,
-  record { consumed = read.1.consumed; stopped = read.1.stopped; reads = read.1.read },
-  (is, read.1.answer, inl untouched),
-)
-
-judged_says : (status : Status) (words : List (List ℕ)) (intake : Intake) (out : Output) (bytes : List ℕ) → IsReplay words → IsWhole intake bytes →
-    Judged status bytes out → Says status words intake out bytes
-judged_says Done words intake out bytes is whole judged = (is, whole, judged)
-judged_says Usage words intake out bytes is whole judged = absurd judged
-judged_says (Input f) words intake out bytes is whole judged = (is, inl (whole, judged))
-judged_says (Source w) words intake out bytes is whole judged = absurd judged
-judged_says Sink words intake out bytes is whole judged = (is, whole, judged)
-judged_says Memory words intake out bytes is whole judged = (is, whole.2, inr (whole, judged))
-
-pub judged : (status : Status) (words : List (List ℕ)) (intake : Intake) (out : Output) (bytes : List ℕ) → IsReplay words →
-    ReadsAll 67108864 intake.before intake.after intake.faults_before intake.faults_after intake.reads_before intake.reads_after (Ok bytes) →
-    Judged status bytes out → Ends status words intake out
-judged status words intake out bytes is read says =
-    let came = read.0 in
-    let answer = read.1.answer in
-    let same : bytes ≡ came = answer.0 in (
-      came,
-      record { consumed = read.1.consumed; stopped = read.1.stopped; reads = read.1.read },
-      judged_says status words intake out came is (answer.1, answer.2, answer.3) (subst (λ (l : List ℕ). Judged status l out) same says),
-    )
-
--- ---- what is answered to a schedule, and to what is none
-
-for_schedule : (status : Status) (bytes : List ℕ) (out : Output) (events : List ScheduleEvent) → Judged status bytes out → IsSchedule bytes events → IsForSchedule status
-for_schedule Done bytes out events judged is = tt
-for_schedule Usage bytes out events judged is = judged
-for_schedule (Input f) bytes out events judged is = judged.0 events is
-for_schedule (Source w) bytes out events judged is = tt
-for_schedule Sink bytes out events judged is = tt
-for_schedule Memory bytes out events judged is = tt
-
-for_none : (status : Status) (bytes : List ℕ) (out : Output) → Judged status bytes out → IsNoSchedule bytes → IsForNone status
-for_none Done bytes out judged none = none judged.0 judged.1.schedule
-for_none Usage bytes out judged none = judged
-for_none (Input f) bytes out judged none = tt
-for_none (Source w) bytes out judged none = tt
-for_none Sink bytes out judged none = none judged.0 judged.2.schedule
-for_none Memory bytes out judged none = tt
-
-pub complete : (status : Status) (intake : Intake) (out : Output) (came : List ℕ) →
-    ReadsAll 67108864 intake.before intake.after intake.faults_before intake.faults_after intake.reads_before intake.reads_after (Ok came) →
-    Judged status came out → IfSome intake.before (λ bytes. (events : List ScheduleEvent) → IsSchedule bytes events → IsForSchedule status)
-complete status intake out came read says = if_told intake.before (λ bytes. (events : List ScheduleEvent) → IsSchedule bytes events → IsForSchedule status) (λ bytes told events is.
-    let all : read.0 ≡ bytes = whole_is intake.before intake.after read.0 bytes read.1.consumed read.1.answer.1 told in
-    for_schedule status came out events says (subst (λ (l : List ℕ). IsSchedule l events) (sym (read.1.answer.0 ∙ all)) is))
-
-pub refused : (status : Status) (intake : Intake) (out : Output) (came : List ℕ) →
-    ReadsAll 67108864 intake.before intake.after intake.faults_before intake.faults_after intake.reads_before intake.reads_after (Ok came) →
-    Judged status came out → IfSome intake.before (λ bytes. IsNoSchedule bytes → IsForNone status)
-refused status intake out came read says = if_told intake.before (λ bytes. IsNoSchedule bytes → IsForNone status) (λ bytes told none.
-    let all : read.0 ≡ bytes = whole_is intake.before intake.after read.0 bytes read.1.consumed read.1.answer.1 told in
-    for_none status came out says (subst IsNoSchedule (sym (read.1.answer.0 ∙ all)) none))
-
-pub too_long_for : (intake : Intake) →
-    ReadsAll 67108864 intake.before intake.after intake.faults_before intake.faults_after intake.reads_before intake.reads_after (Err fault.TooLong) →
-    IfSome intake.before (λ bytes. (events : List ScheduleEvent) → IsSchedule bytes events → ⊥)
-too_long_for intake read = if_told intake.before (λ bytes. (events : List ScheduleEvent) → IsSchedule bytes events → ⊥) (λ bytes told events is.
-    let more = longer intake.before intake.after read.0 bytes read.1.consumed told in
-    contrary (length read.0) (length bytes) read.1.answer.0 more is.short)
-  where
-    contrary : (m n : ℕ) → m ≡ 67108864 + 1 → m ≤ n → n ≤ 67108864 → ⊥
-    contrary m n is more short = omega (arith, is, more, short)
+-- the same where the configuration was read
+pub answers_from : (status : Status) (words : List (List ℕ)) (config intake : Intake) (out : Output) (bytes : List ℕ) →
+    ReadsFront 1048577 config.before config.after config.faults_before config.faults_after config.reads_before config.reads_after (Ok bytes) →
+    Configured status bytes intake out → IsReplay words → IfSome config.before (λ conf. IfSome intake.before (λ text. Answers status conf text))
+answers_from status words config intake out bytes read says is =
+    answers status words config intake out (ends status words config intake out bytes is (is_read 1048577 config bytes read) says) is

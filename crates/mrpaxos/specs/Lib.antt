@@ -1,7 +1,3 @@
-pub mod Ring
-pub mod Learner
-pub mod System
-pub mod Order
-pub mod Rows
 pub mod Answers
+pub mod Status
 pub mod Top

@@ -1,44 +1,71 @@
--- What the program's statuses are, and what each of them says.
-use Rattle.std.specs.Prelude.{ℕ, ◌≡◌, ◌≤◌, ◌+◌, ◌⊎◌, List, [], ◌∷◌, length, codes, take, Option}
+-- What each status of the program says of the words, the configuration, the input and the output.
+use Rattle.std.specs.Prelude.{ℕ, ◌≡◌, ◌≤◌, ◌+◌, ◌⊎◌, List, [], ◌∷◌, length, codes, take, Option, Ok, Err}
 use Rattle.std.specs.Io.KnownBytes.{Appends, Consumes, IsAtEnd, Keeps}
 use Rattle.outside.specs.Counts.{rise}
-use Rattle.mrp_types.specs.declared.id.NodeId.{NodeId}
-use Rattle.transcript.specs.declared.line.Line.{Line}
+use Rattle.mrp_config.specs.Config.{Config as Deployed}
+use Rattle.mrp_config.specs.Walk.{read_of}
+use Rattle.mrp_config.specs.declared.fault.ConfigFault.{ConfigFault}
+use Rattle.mrp_config.specs.declared.fault.ConfigFault.TheVariants.{NotBuilt}
+use Rattle.mrp_config.specs.declared.tables.RingTable.{RingTable}
 use Rattle.transcript.specs.Spelling.{lines_text}
-use Rattle.plain_model.specs.Lines.{deliveries, counted}
-use Rattle.plain_model.specs.Faithful.{IsFaithful}
-use Rattle.mrpaxos.specs.Order.{one_ring}
 use Rattle.schedule.specs.declared.event.ScheduleEvent.{ScheduleEvent}
+use Rattle.schedule.specs.declared.fault.ScheduleFault.{ScheduleFault}
+use Rattle.schedule.specs.declared.fault.FaultKind.{FaultKind}
+use Rattle.schedule.specs.declared.fault.FaultKind.TheVariants as kind
 use Rattle.schedule.specs.Spelling.{IsSchedule}
-use Rattle.mrpaxos.specs.System.{trace}
-use Rattle.mrpaxos.specs.declared.top.Status.{Status}
-use Rattle.mrpaxos.specs.declared.top.Status.TheVariants.{Done, Usage, Input, Source, Sink, Memory}
-use Rattle.mrpaxos.specs.declared.top.InputFault.TheVariants as input
-use Rattle.mrpaxos.specs.declared.top.Which.TheVariants as which
-
-abbrev pub status_number : Status → ℕ
-status_number Done = 0
-status_number Usage = 1
-status_number (Input f) = 3
-status_number (Source w) = 4
-status_number Sink = 5
-status_number Memory = 9
-
-abbrev pub status_bytes : Status → List ℕ
-status_bytes Done = []
-status_bytes Usage = codes "usage"
-status_bytes (Input input.Unread) = codes "input 0 unread"
-status_bytes (Source which.Input) = codes "source input"
-status_bytes Sink = codes "sink"
-status_bytes Memory = codes "memory"
+use Rattle.schedule.specs.Reading.{schedule_of}
+use Rattle.world.specs.Built.{IsBuilt, IsBuiltRing}
+use Rattle.world.specs.Order.{KeepsRules}
+use Rattle.world.specs.System.{trace}
+use Rattle.mrpaxos.specs.declared.status.Status.{Status}
+use Rattle.mrpaxos.specs.declared.status.Status.TheVariants.{Done, Usage, Config, Input, Source, Sink, Memory}
+use Rattle.mrpaxos.specs.declared.status.InputFault.TheVariants as input
+use Rattle.mrpaxos.specs.declared.status.Which.TheVariants as which
 
 -- the one word `replay`
 abbrev pub IsReplay : List (List ℕ) → Type 0
 IsReplay words = words ≡ codes "replay" ∷ []
 
--- the bytes are no schedule
-abbrev pub IsNoSchedule : List ℕ → Type 0
-IsNoSchedule bytes = (events : List ScheduleEvent) → IsSchedule bytes events → ⊥
+-- ---- sources and the sink
+
+-- Of a source: the bytes left before and after, where it tells them, its counts of faults and of reads.
+pub record Intake : Type 0 where
+  pub before : Option (List ℕ)
+  pub after : Option (List ℕ)
+  pub faults_before : ℕ
+  pub faults_after : ℕ
+  pub reads_before : ℕ
+  pub reads_after : ℕ
+
+-- nothing was read
+pub record IsUnread (intake : Intake) : Type 0 where
+  pub bytes : Keeps intake.before intake.after
+  pub faults : intake.faults_after ≡ intake.faults_before
+  pub reads : intake.reads_after ≡ intake.reads_before
+
+-- these bytes came: no more than so many, and each read but the last gave at least one
+pub record Came (most : ℕ) (intake : Intake) (bytes : List ℕ) : Type 0 where
+  pub consumed : Consumes intake.before intake.after bytes
+  pub stopped : length bytes ≤ most
+  pub reads : intake.reads_after ≤ intake.reads_before + length bytes + 1
+
+-- these bytes came, which are all that there were or the first so many, and no read failed
+pub record IsRead (most : ℕ) (intake : Intake) (bytes : List ℕ) : Type 0 where
+  pub came : Came most intake bytes
+  pub whole : IsAtEnd intake.after ⊎ (length bytes ≡ most)
+  pub faults : intake.faults_after ≡ intake.faults_before
+
+-- a read failed
+pub record HasFailed (most : ℕ) (intake : Intake) : Type 0 where
+  pub bytes : List ℕ
+  pub came : Came most intake bytes
+  pub faults : intake.faults_after ≡ rise intake.faults_before
+
+-- memory ran out, and no read failed
+pub record IsCutShort (most : ℕ) (intake : Intake) : Type 0 where
+  pub bytes : List ℕ
+  pub came : Came most intake bytes
+  pub faults : intake.faults_after ≡ intake.faults_before
 
 -- Of a sink: the bytes taken before and after, where it tells them, and its counts of faults.
 pub record Output : Type 0 where
@@ -51,78 +78,101 @@ pub record Output : Type 0 where
 abbrev pub IsUntouched : Output → Type 0
 IsUntouched out = Keeps out.before out.after × (out.faults_after ≡ out.faults_before)
 
--- Lines that keep the rules: each learn line agrees with the book of the lines before it, each deliver line is of a batch
--- that the book has, and each node delivers the instances 0, 1, 2 and so on without a gap or a repeat.
-pub record KeepsRules (lines : List Line) : Type 0 where
-  pub faithful : IsFaithful one_ring lines
-  pub in_turn : (node : NodeId) → deliveries node lines ≡ counted 0 (length (deliveries node lines))
+-- ---- a schedule over a ring
 
 -- the bytes are the schedule of these events, and the sink took the text of its lines and nothing else
-pub record Replayed (bytes : List ℕ) (out : Output) (events : List ScheduleEvent) : Type 0 where
-  pub schedule : IsSchedule bytes events
-  pub rules : KeepsRules (trace events)
-  pub text : Appends out.before out.after (lines_text (trace events))
+pub record Replayed (config : Deployed) (ring : RingTable) (bytes : List ℕ) (out : Output) (events : List ScheduleEvent) : Type 0 where
+  pub schedule : IsSchedule config bytes events
+  pub rules : KeepsRules ring (trace ring events)
+  pub text : Appends out.before out.after (lines_text (trace ring events))
   pub faults : out.faults_after ≡ out.faults_before
 
 -- the bytes are the schedule of these events, and the sink took a front of the text of its lines
-pub record Stopped (bytes : List ℕ) (out : Output) (events : List ScheduleEvent) (n : ℕ) : Type 0 where
-  pub schedule : IsSchedule bytes events
-  pub rules : KeepsRules (trace events)
-  pub front : Appends out.before out.after (take n (lines_text (trace events)))
+pub record Stopped (config : Deployed) (ring : RingTable) (bytes : List ℕ) (out : Output) (events : List ScheduleEvent) (n : ℕ) : Type 0 where
+  pub schedule : IsSchedule config bytes events
+  pub rules : KeepsRules ring (trace ring events)
+  pub front : Appends out.before out.after (take n (lines_text (trace ring events)))
 
--- What a status says where the bytes are all of the input. Of want of memory nothing is said but what was written:
--- nothing where the input was not judged yet.
-abbrev pub Judged : Status → List ℕ → Output → Type 0
-Judged Done bytes out = (events : List ScheduleEvent) × Replayed bytes out events
-Judged (Input f) bytes out = IsNoSchedule bytes × IsUntouched out
-Judged Sink bytes out = (events : List ScheduleEvent) × (n : ℕ) × Stopped bytes out events n × (out.faults_after ≡ rise out.faults_before)
-Judged Memory bytes out = IsUntouched out ⊎ ((events : List ScheduleEvent) × (n : ℕ) × Stopped bytes out events n × (out.faults_after ≡ out.faults_before))
-Judged Usage bytes out = ⊥
-Judged (Source w) bytes out = ⊥
+-- What a status says of the bytes of an input. Of want of memory nothing is said but what was written: nothing, or a
+-- front of the lines.
+abbrev pub Judged : Status → Deployed → RingTable → List ℕ → Output → Type 0
+Judged Done config ring bytes out = (events : List ScheduleEvent) × Replayed config ring bytes out events
+Judged (Input (input.Schedule fault)) config ring bytes out = (schedule_of config bytes ≡ Err fault) × IsUntouched out
+Judged Sink config ring bytes out =
+    (events : List ScheduleEvent) × (n : ℕ) × Stopped config ring bytes out events n × (out.faults_after ≡ rise out.faults_before)
+Judged Memory config ring bytes out = IsUntouched out
+    ⊎ ((events : List ScheduleEvent) × (n : ℕ) × Stopped config ring bytes out events n × (out.faults_after ≡ out.faults_before))
+Judged Usage config ring bytes out = ⊥
+Judged (Config fault) config ring bytes out = ⊥
+Judged (Source w) config ring bytes out = ⊥
 
--- Of a source: the bytes left before and after, where it tells them, its counts of faults and of reads.
-pub record Intake : Type 0 where
-  pub before : Option (List ℕ)
-  pub after : Option (List ℕ)
-  pub faults_before : ℕ
-  pub faults_after : ℕ
-  pub reads_before : ℕ
-  pub reads_after : ℕ
+-- want of memory is no fault of the input
+abbrev pub refused_of : ScheduleFault → FaultKind → Status
+refused_of fault kind.Memory = Memory
+refused_of fault other = Input (input.Schedule fault)
 
--- These bytes came: at most one past the limit of a schedule, and each read but the last gave at least one.
-pub record Came (intake : Intake) (bytes : List ℕ) : Type 0 where
-  pub consumed : Consumes intake.before intake.after bytes
-  pub stopped : length bytes ≤ 67108865
-  pub reads : intake.reads_after ≤ intake.reads_before + length bytes + 1
+-- What a status says of an input, of which up to 67,108,865 bytes are read: one more than a schedule may have.
+abbrev pub Entered : Status → Deployed → RingTable → Intake → Output → Type 0
+Entered (Source which.Input) config ring intake out = HasFailed 67108865 intake × IsUntouched out
+Entered (Source which.Config) config ring intake out = ⊥
+Entered Usage config ring intake out = ⊥
+Entered (Config fault) config ring intake out = ⊥
+Entered Memory config ring intake out = (IsCutShort 67108865 intake × IsUntouched out)
+    ⊎ ((bytes : List ℕ) × IsRead 67108865 intake bytes × Judged Memory config ring bytes out)
+Entered status config ring intake out = (bytes : List ℕ) × IsRead 67108865 intake bytes × Judged status config ring bytes out
 
--- all of the input came, and no read failed
-abbrev pub IsWhole : Intake → List ℕ → Type 0
-IsWhole intake bytes = IsAtEnd intake.after × (length bytes ≤ 67108864) × (intake.faults_after ≡ intake.faults_before)
+-- ---- the configuration
 
--- What a status says of the words, the input and the output, where these bytes came.
-abbrev pub Says : Status → List (List ℕ) → Intake → Output → List ℕ → Type 0
-Says Usage words intake out bytes = (IsReplay words → ⊥) × (bytes ≡ []) × (intake.faults_after ≡ intake.faults_before) × IsUntouched out
-Says (Source w) words intake out bytes = IsReplay words × (intake.faults_after ≡ rise intake.faults_before) × IsUntouched out
-Says Done words intake out bytes = IsReplay words × IsWhole intake bytes × Judged Done bytes out
-Says (Input f) words intake out bytes = IsReplay words
-    × ((IsWhole intake bytes × Judged (Input f) bytes out)
-    ⊎ ((length bytes ≡ 67108865) × (intake.faults_after ≡ intake.faults_before) × IsUntouched out))
-Says Sink words intake out bytes = IsReplay words × IsWhole intake bytes × Judged Sink bytes out
-Says Memory words intake out bytes = IsReplay words × (intake.faults_after ≡ intake.faults_before)
-    × (IsUntouched out ⊎ (IsWhole intake bytes × Judged Memory bytes out))
+-- why the bytes of a configuration are refused: the first fault of the walk, or that the deployment isn't built
+abbrev pub Refuses : List ℕ → ConfigFault → Type 0
+Refuses bytes fault = (read_of bytes ≡ Err fault)
+    ⊎ ((fault ≡ NotBuilt) × ((config : Deployed) × (read_of bytes ≡ Ok config) × (IsBuilt config → ⊥)))
 
-abbrev pub Ends : Status → List (List ℕ) → Intake → Output → Type 0
-Ends status words intake out = (bytes : List ℕ) × Came intake bytes × Says status words intake out bytes
+-- the bytes are a deployment that is built, over this ring
+pub record IsConfigured (bytes : List ℕ) (config : Deployed) (ring : RingTable) : Type 0 where
+  pub accepted : read_of bytes ≡ Ok config
+  pub built : IsBuiltRing config ring
 
--- the answers to an input that is a schedule
-abbrev pub IsForSchedule : Status → Type 0
-IsForSchedule Usage = ⊥
-IsForSchedule (Input f) = ⊥
-IsForSchedule other = Unit {0}
+-- the input under a configuration that is taken
+abbrev pub EnteredBy : Status → List ℕ → Intake → Output → Type 0
+EnteredBy status bytes intake out = (config : Deployed) × (ring : RingTable) × IsConfigured bytes config ring × Entered status config ring intake out
 
--- the answers to an input that is none
-abbrev pub IsForNone : Status → Type 0
-IsForNone Usage = ⊥
-IsForNone Done = ⊥
-IsForNone Sink = ⊥
-IsForNone other = Unit {0}
+-- What a status says of the bytes of a configuration.
+abbrev pub Configured : Status → List ℕ → Intake → Output → Type 0
+Configured (Config fault) bytes intake out = Refuses bytes fault × IsUnread intake × IsUntouched out
+Configured Memory bytes intake out = (IsUnread intake × IsUntouched out) ⊎ EnteredBy Memory bytes intake out
+Configured status bytes intake out = EnteredBy status bytes intake out
+
+-- ---- all
+
+-- What a status says of the words, the configuration, the input and the output. Up to 1,048,577 bytes are read of a
+-- configuration: one more than it may have.
+abbrev pub Ends : Status → List (List ℕ) → Intake → Intake → Output → Type 0
+Ends Usage words config input out = (IsReplay words → ⊥) × IsUnread config × IsUnread input × IsUntouched out
+Ends (Source which.Config) words config input out = IsReplay words × HasFailed 1048577 config × IsUnread input × IsUntouched out
+Ends Memory words config input out = IsReplay words
+    × ((IsCutShort 1048577 config × IsUnread input × IsUntouched out)
+    ⊎ ((bytes : List ℕ) × IsRead 1048577 config bytes × Configured Memory bytes input out))
+Ends status words config input out = IsReplay words × ((bytes : List ℕ) × IsRead 1048577 config bytes × Configured status bytes input out)
+
+-- ---- what is answered
+
+-- what the definitions say of the bytes of a configuration and of an input, of which the first 67,108,865 are judged
+abbrev pub IsAnswer : Status → List ℕ → List ℕ → Type 0
+IsAnswer (Config fault) conf text = Refuses conf fault
+IsAnswer (Input (input.Schedule fault)) conf text =
+    (config : Deployed) × (ring : RingTable) × IsConfigured conf config ring × (schedule_of config (take 67108865 text) ≡ Err fault)
+IsAnswer Done conf text =
+    (config : Deployed) × (ring : RingTable) × IsConfigured conf config ring × ((events : List ScheduleEvent) × (schedule_of config (take 67108865 text) ≡ Ok events))
+IsAnswer other conf text = ⊥
+
+-- a call failed, or memory ran out
+abbrev pub IsOfCalls : Status → Type 0
+IsOfCalls (Source w) = Unit {0}
+IsOfCalls Sink = Unit {0}
+IsOfCalls Memory = Unit {0}
+IsOfCalls other = ⊥
+
+-- The answer to these bytes is that of the definitions, unless a call failed or memory ran out.
+abbrev pub Answers : Status → List ℕ → List ℕ → Type 0
+Answers status conf text = IsOfCalls status ⊎ IsAnswer status conf text

@@ -1,29 +1,20 @@
-//! The program: `mrpaxos INPUT replay`.
+//! The program: `mrpaxos CONFIG INPUT replay`.
 //!
-//! INPUT is a file, or `-` for standard input; a file that can't be opened is a source whose first read fails.
+//! CONFIG is a file. INPUT is a file, or `-` for standard input. A file that can't be opened is a source whose first
+//! read fails. With fewer than two arguments there are no words.
 #![tactic(auto)]
 
-mod frame;
-mod laws;
-mod learner;
 mod replay;
-mod request;
-mod rows;
+mod status;
 mod top;
-mod world;
 
-pub use frame::{Body, Frame, Frames};
-pub use laws::{deliveries_are_in_turn, lines_are_faithful};
-pub use learner::{Learned, RING};
 use outside::{ReadSource, WriteSink};
-pub use replay::ReplayFault;
-pub use request::Request;
-pub use rows::{first_row, no_event, reordered, twice};
+pub use replay::{ReplayFault, replay};
+pub use status::{InputFault, Status, Which, status_text};
 use std::io::Read;
 use std::process::ExitCode;
 use std::{env, fs, io};
-pub use top::{InputFault, Status, Which, run, status_text};
-pub use world::World;
+pub use top::run;
 
 #[cfg(test)]
 mod tests;
@@ -33,22 +24,35 @@ fn main(rt: HostRuntime) -> io::Result<ExitCode> {
     for word in env::args(&rt)? {
         words.push(word)?;
     }
-    let status = match words.get(1) {
-        None => run_over(&rt, &words[..0], None::<fs::File>),
-        Some(path) if path.as_str() == "-" => run_over(&rt, &words[2..], Some(rt.stdin())),
-        Some(path) => run_over(&rt, &words[2..], fs::open(&rt, path.as_str()).ok()),
+    let status = match (words.get(1), words.get(2)) {
+        (Some(config), Some(input)) => {
+            let config = fs::open(&rt, config.as_str()).ok();
+            if input.as_str() == "-" {
+                run_over(&rt, &words[3..], config, Some(rt.stdin()))
+            } else {
+                let input = fs::open(&rt, input.as_str()).ok();
+                run_over(&rt, &words[3..], config, input)
+            }
+        }
+        _ => run_over(&rt, &words[..0], None::<fs::File>, None::<fs::File>),
     };
-    if status != Status::Done {
+    if status.number() != 0 {
         tell(&rt, &status)?;
     }
     Ok(ExitCode::from(status.number()))
 }
 
-// Runs the words over a reader and standard output.
-fn run_over<R: Read + Drop>(rt: &HostRuntime, words: &[String], from: Option<R>) -> Status {
-    let mut input = ReadSource::new(from);
+// Runs the words over readers and standard output.
+fn run_over<C: Read + Drop, I: Read + Drop>(
+    rt: &HostRuntime,
+    words: &[String],
+    config: Option<C>,
+    input: Option<I>,
+) -> Status {
+    let mut config = ReadSource::new(config);
+    let mut input = ReadSource::new(input);
     let mut out = WriteSink::new(io::writer(rt));
-    run(rt.alloc(), words, &mut input, &mut out)
+    run(rt.alloc(), words, &mut config, &mut input, &mut out)
 }
 
 // Prints the text of a status to standard error.

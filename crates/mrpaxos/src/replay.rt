@@ -4,16 +4,17 @@ ghost use Rattle.std.specs.Prelude.{◌≡◌, ◌++◌, IfOk, OnOk};
 ghost use Rattle.std.specs.List.{AllByRecursion};
 ghost use Rattle.outside.specs.Writing.{WritesAll};
 ghost use Rattle.transcript.specs.Spelling.{lines_text};
-ghost use Rattle.schedule.specs.Spelling.{IsEvent};
-ghost use Rattle.mrpaxos.specs.System.{trace, happens};
+ghost use Rattle.world.specs.Ring.{IsRing};
+ghost use Rattle.world.specs.System.{trace, happens, MayHappen};
 ghost use Rattle.mrpaxos.specs.Answers.{CountsSink, fault_of};
 
-use crate::world::World;
+use mrp_config::RingTable;
 use mrp_types::{Memory, Octets};
 use outside::{Refused, Sink, write_all};
 use schedule::{Schedule, ScheduleEvent};
 use std::alloc::Global;
 use transcript::{Line, put_line};
+use world::World;
 
 /// Why not all lines were written.
 #[derive(Clone, Copy, Debug, PartialEq, Eq)]
@@ -46,13 +47,19 @@ impl From<Memory> for ReplayFault {
     }
 }
 
-/// Writes the lines of the schedule to the sink. After a refusal a front of them was written.
-pub fn replay<O: Sink>(alloc: Global, schedule: &Schedule, out: &mut O) -> Result<(), ReplayFault>
-    requires { AllByRecursion IsEvent schedule.now }
-    ensures written { WritesAll (O.taken out.old) (O.taken out.new) (lines_text (trace schedule.now)) result }
+/// Writes the lines of the schedule over a ring to the sink. After a refusal a front of them was written.
+pub fn replay<O: Sink>(
+    alloc: Global,
+    ring: RingTable,
+    schedule: &Schedule,
+    out: &mut O,
+) -> Result<(), ReplayFault>
+    requires ring { IsRing ring }
+    requires events { AllByRecursion MayHappen schedule.now }
+    ensures written { WritesAll (O.taken out.old) (O.taken out.new) (lines_text (trace ring schedule.now)) result }
     ensures fault { CountsSink result (O.faults out.old) (O.faults out.new) }
 {
-    let mut world = World::start(alloc)?;
+    let mut world = World::start(alloc, ring)?;
     for event in schedule.items() {
         replay_event(alloc, &mut world, event, out)?;
     }
@@ -67,7 +74,7 @@ fn replay_event<O: Sink>(
     event: &ScheduleEvent,
     out: &mut O,
 ) -> Result<(), ReplayFault>
-    requires { IsEvent event.now }
+    requires { MayHappen event.now }
     ensures world { OnOk result (world.new ≡ (happens world.old event.now).world) }
     ensures written { WritesAll (O.taken out.old) (O.taken out.new) (lines_text (happens world.old event.now).lines) result }
     ensures fault { CountsSink result (O.faults out.old) (O.faults out.new) }

@@ -1,6 +1,9 @@
-use crate::top::{InputFault, Status, Which, run, status_text};
-use mrp_types::Octets;
+use crate::status::{InputFault, Status, Which, status_text};
+use crate::top::run;
+use mrp_config::ConfigFault;
+use mrp_types::{LogId, Octets};
 use outside::{MemSink, MemSource};
+use schedule::{FaultKind, ScheduleFault};
 use std::alloc::Global;
 use std::test::*;
 
@@ -11,6 +14,39 @@ const R1A: &str = "01000100000000000000000100050100000161";
 
 const R1B: &str = "01000101000000000000000100050100000162";
 
+// Three nodes, each an acceptor of the one ring and a replica of the one partition.
+const CONFIG: &str =
+    "m = 1\nlambda = 0\ndelta = 1\nresend = 4\nsuspect = 16\nattempt = 8\ncheckpoint = 2\n\
+    trim = 8\nwindow = 16\njournal = 1048576\n\
+    node = [{ id = 0, address = \"127.0.0.1:7100\" }, { id = 1, address = \"127.0.0.1:7101\" },\
+    { id = 2, address = \"127.0.0.1:7102\" }]\n\
+    client = [{ id = 0, address = \"127.0.0.1:7200\" }, { id = 1, address = \"127.0.0.1:7201\" }]\n\
+    ring = [{ id = 0, acceptors = [0, 1, 2] }]\n\
+    partition = [{ id = 0, replicas = [0, 1, 2], rings = [0], home = 0, from = \"\", to = \"\",\
+    logs = [0], trim_quorum = 2, recovery_quorum = 2 }]\n";
+
+// What a run ended with: the number and the text of its status, and what it wrote.
+#[derive(Drop, Debug)]
+struct Ended {
+    number: u8,
+    text: Octets,
+    lines: Octets,
+}
+
+// Which reads of the configuration and of the input fail, and which writes.
+#[derive(Clone, Copy)]
+struct Failing<'a> {
+    config: &'a [u64],
+    input: &'a [u64],
+    out: &'a [u64],
+}
+
+const NONE: Failing<'static> = Failing {
+    config: &[],
+    input: &[],
+    out: &[],
+};
+
 fn words(alloc: Global, text: &str) -> Result<Vec<String>, Fail> {
     let mut words = Vec::new(alloc);
     for word in text.split_whitespace() {
@@ -19,19 +55,42 @@ fn words(alloc: Global, text: &str) -> Result<Vec<String>, Fail> {
     Ok(words)
 }
 
-// The status and the text of a schedule.
-fn replayed(
+fn source(alloc: Global, bytes: &[u8], fail: &[u64]) -> Result<MemSource, Fail> {
+    Ok(MemSource::new(Octets::from_slice(alloc, bytes)?, fail.to_vec(alloc)?))
+}
+
+fn outcome(
     alloc: Global,
+    command: &str,
+    config: &str,
     schedule: &[u8],
-    reads: &[u64],
-    writes: &[u64],
-) -> Result<(Status, Octets), Fail> {
-    let words = words(alloc, "replay")?;
-    let bytes = Octets::from_slice(alloc, schedule)?;
-    let mut input = MemSource::new(bytes, reads.to_vec(alloc)?);
-    let mut out = MemSink::new(alloc, writes.to_vec(alloc)?);
-    let status = run(alloc, &words, &mut input, &mut out);
-    Ok((status, Octets::from_slice(alloc, out.bytes())?))
+    failing: Failing<'_>,
+) -> Result<Ended, Fail> {
+    let words = words(alloc, command)?;
+    let mut config = source(alloc, config.as_bytes(), failing.config)?;
+    let mut input = source(alloc, schedule, failing.input)?;
+    let mut out = MemSink::new(alloc, failing.out.to_vec(alloc)?);
+    let status = run(alloc, &words, &mut config, &mut input, &mut out);
+    Ok(Ended {
+        number: status.number(),
+        text: status_text(alloc, &status)?,
+        lines: Octets::from_slice(alloc, out.bytes())?,
+    })
+}
+
+// Whether a run ends with this number and this text, and has written these lines.
+fn ends_with(ended: &Ended, number: u8, text: &str, lines: &str) -> bool {
+    ended.number == number
+        && ended.text.bytes() == text.as_bytes()
+        && ended.lines.bytes() == lines.as_bytes()
+}
+
+// The configuration with a piece of text in place of another.
+fn edited(alloc: Global, old: &str, new: &str) -> Result<String, Fail> {
+    let Some((before, after)) = CONFIG.split_once(old) else {
+        return Err(Fail::new("nothing to write over"));
+    };
+    Ok(format!(in alloc; "{before}{new}{after}")?)
 }
 
 #[test]
@@ -45,6 +104,10 @@ fn schedules_and_their_lines(rt: HostRuntime) -> Result<(), Fail> {
     let swapped = format!(in alloc;
         "learn 1 0 1 2 {R1B}\nlearn 1 0 0 1 {R1A}\ndeliver 1 0 0\ndeliver 1 0 1\nend 5\n"
     )?;
+    let listed = format!(in alloc;
+        "learn 1 0 0 1 {V}\ndeliver 1 0 0\n\
+        frame 2 n1 n2 4d52010600010000000000000000000000000000000001010014{V}\nframe 9 none\nend 4\n"
+    )?;
     let rows = [
         ("", "end 0\n"),
         ("ask 0 append 0 6869\nflow 100\n", first.as_str()),
@@ -56,97 +119,146 @@ fn schedules_and_their_lines(rt: HostRuntime) -> Result<(), Fail> {
             "ask 0 append 0 61\nask 1 append 0 62\nflow 2\ndeliver 3\ndeliver 2\n",
             swapped.as_str(),
         ),
+        (
+            "ask 0 append 0 6869\nflow 2\nlist 2\nlist 9\n",
+            listed.as_str(),
+        ),
+        ("ask 0 append 0 6869\nlose 1\nflow 100\n", "end 3\n"),
     ];
-    for (schedule, want) in rows {
-        let (status, text) = replayed(alloc, schedule.as_bytes(), &[], &[])?;
-        assert_eq!(rt; status, Status::Done, "{schedule:?}");
-        assert_eq!(rt; text.bytes(), want.as_bytes(), "{schedule:?}");
+    for (schedule, lines) in rows {
+        let ended = outcome(alloc, "replay", CONFIG, schedule.as_bytes(), NONE)?;
+        assert!(rt; ends_with(&ended, 0, "", lines), "{schedule:?}: {ended:?}");
     }
     Ok(())
 }
 
 #[test]
-fn what_is_no_schedule(rt: HostRuntime) -> Result<(), Fail> {
+fn schedules_that_are_refused(rt: HostRuntime) -> Result<(), Fail> {
+    for (schedule, text) in [
+        ("flow x\n", "input 1 number"),
+        ("ask 0 append 9 61\n", "input 1 route"),
+        ("flow 1\ntick all\n", "input 2 word"),
+        ("flow 1", "input 1 cut"),
+        ("flow 0\n", "input 1 range"),
+        ("flow 1 \n", "input 1 left"),
+    ] {
+        let ended = outcome(rt.alloc(), "replay", CONFIG, schedule.as_bytes(), NONE)?;
+        assert!(rt; ends_with(&ended, 3, text, ""), "{schedule:?}: {ended:?}");
+    }
+    Ok(())
+}
+
+#[test]
+fn configurations_that_are_refused(rt: HostRuntime) -> Result<(), Fail> {
     let alloc = rt.alloc();
-    for schedule in [
-        "tick all\n",
-        "flow 1",
-        "flow 01\n",
-        "flow 0\n",
-        "flow 100001\n",
-        "flow  1\n",
-        "flow 1 \n",
-        "flow +1\n",
-        "\n",
-        "ask 0 append 0 6A\n",
-        "ask 0 append 0 616\n",
-        "ask 0 append 0 \n",
-        "ask 2 append 0 61\n",
-        "ask 0 append 1 61\n",
-        "ask 0 get 61\n",
-        "deliver 18446744073709551616\n",
-        "deliver -1\n",
+    for (old, new, text) in [
+        ("m = 1", "m = 0", "config 4 m"),
+        ("m = 1", "m = 1\ncolour = 1", "config 10 colour"),
+        ("m = 1", "", "config 2 m"),
+        ("trim_quorum = 2", "trim_quorum = 1", "config 7 0"),
+        ("to = \"\"", "to = \"80\"", "config 8 0"),
+        ("{ id = 1, a", "{ id = 0, a", "config 5 node.id 0"),
+        ("m = 1", "=", "config 1"),
+        // Accepted, and not built.
+        ("lambda = 0", "lambda = 1", "config 13"),
+        ("replicas = [0, 1, 2]", "replicas = [0, 1]", "config 13"),
+        (
+            "ring = [",
+            "ring = [{ id = 0, acceptors = [0, 1, 2] }, { id = 1, acceptors = [1] }]\n#",
+            "config 13",
+        ),
     ] {
-        let (status, text) = replayed(alloc, schedule.as_bytes(), &[], &[])?;
-        assert_eq!(rt; status, Status::Input(InputFault::Unread), "{schedule:?}");
-        assert!(rt; text.is_empty());
+        let config = edited(alloc, old, new)?;
+        let ended = outcome(alloc, "replay", config.as_str(), b"flow x\n", NONE)?;
+        assert!(rt; ends_with(&ended, 2, text, ""), "{new:?}: {ended:?}");
     }
-    for (len, want) in [
-        (2048, Status::Done),
-        (2049, Status::Input(InputFault::Unread)),
-    ] {
-        let mut schedule = String::from_str(alloc, "ask 0 append 0 ")?;
-        for _ in 0..len {
-            schedule.push_str("61")?;
-        }
-        schedule.push_str("\n")?;
-        let (status, _) = replayed(alloc, schedule.as_bytes(), &[], &[])?;
-        assert_eq!(rt; status, want, "a value of {len} bytes");
-    }
+    Ok(())
+}
+
+#[test]
+fn other_rings(rt: HostRuntime) -> Result<(), Fail> {
+    let alloc = rt.alloc();
+    let reversed = edited(alloc, "acceptors = [0, 1, 2]", "acceptors = [2, 0, 1]")?;
+    let schedule = b"ask 0 append 0 6869\nlist 0\nflow 2\nlist 1\n";
+    let ended = outcome(alloc, "replay", reversed.as_str(), schedule, NONE)?;
+    let lines = format!(in alloc;
+        "frame 0 c0 n2 4d520101010000000000000000000000010006010000026869\nlearn 0 0 0 1 {V}\ndeliver 0 0 0\n\
+        frame 1 n2 n0 4d520105000200000000000000000300000000000000000000000000000001010014{V}\nend 4\n"
+    )?;
+    assert!(rt; ends_with(&ended, 0, "", lines.as_str()), "{ended:?}");
     Ok(())
 }
 
 #[test]
 fn failing_calls(rt: HostRuntime) -> Result<(), Fail> {
     let alloc = rt.alloc();
-    let schedule = b"ask 0 append 0 6869\nflow 100\n";
-    let (status, text) = replayed(alloc, schedule, &[1], &[])?;
-    assert_eq!(rt; status, Status::Source(Which::Input));
-    assert!(rt; text.is_empty());
-    let (status, text) = replayed(alloc, schedule, &[], &[0])?;
-    assert_eq!(rt; status, Status::Sink);
-    assert!(rt; text.is_empty());
-    let (status, text) = replayed(alloc, b"ask 0 append 0 6869\nflow 2\nflow 1\n", &[], &[1])?;
-    assert_eq!(rt; status, Status::Sink);
+    let schedule = b"ask 0 append 0 6869\nflow 2\nflow 1\n";
     let first = format!(in alloc; "learn 1 0 0 1 {V}\ndeliver 1 0 0\n")?;
-    assert_eq!(rt; text.bytes(), first.as_bytes());
+    let no_config = Failing {
+        config: &[0],
+        ..NONE
+    };
+    let no_input = Failing {
+        input: &[1],
+        ..NONE
+    };
+    let no_write = Failing { out: &[0], ..NONE };
+    let one_write = Failing { out: &[1], ..NONE };
+    for (failing, number, text, lines) in [
+        (no_config, 4, "source config", ""),
+        (no_input, 4, "source input", ""),
+        (no_write, 5, "sink", ""),
+        (one_write, 5, "sink", first.as_str()),
+    ] {
+        let ended = outcome(alloc, "replay", CONFIG, schedule, failing)?;
+        assert!(rt; ends_with(&ended, number, text, lines), "{text}: {ended:?}");
+    }
     Ok(())
 }
 
 #[test]
 fn words_that_are_no_command(rt: HostRuntime) -> Result<(), Fail> {
-    let alloc = rt.alloc();
-    for text in ["", "replay x", "Replay", "audit"] {
-        let words = words(alloc, text)?;
-        let mut input = MemSource::new(Octets::new(alloc), Vec::new(alloc));
-        let mut out = MemSink::new(alloc, Vec::new(alloc));
-        assert_eq!(rt; run(alloc, &words, &mut input, &mut out), Status::Usage);
+    for command in ["", "replay x", "Replay", "audit"] {
+        let ended = outcome(rt.alloc(), command, "", b"", NONE)?;
+        assert!(rt; ends_with(&ended, 1, "usage", ""), "{command:?}: {ended:?}");
     }
     Ok(())
 }
 
 #[test]
 fn texts_of_statuses(rt: HostRuntime) -> Result<(), Fail> {
+    let alloc = rt.alloc();
+    let name = Octets::from_slice(alloc, b"node.id")?;
+    let schedule = ScheduleFault {
+        line: 12,
+        kind: FaultKind::TooMany,
+    };
     for (status, number, want) in [
         (Status::Done, 0, ""),
         (Status::Usage, 1, "usage"),
-        (Status::Input(InputFault::Unread), 3, "input 0 unread"),
+        (
+            Status::Config(ConfigFault::Repeated(name, 3)),
+            2,
+            "config 5 node.id 3",
+        ),
+        (
+            Status::Config(ConfigFault::LogTwice(LogId(63))),
+            2,
+            "config 9 63",
+        ),
+        (Status::Config(ConfigFault::TooLong), 2, "config 11"),
+        (
+            Status::Input(InputFault::Schedule(schedule)),
+            3,
+            "input 12 toomany",
+        ),
+        (Status::Source(Which::Config), 4, "source config"),
         (Status::Source(Which::Input), 4, "source input"),
         (Status::Sink, 5, "sink"),
         (Status::Memory, 9, "memory"),
     ] {
         assert_eq!(rt; status.number(), number);
-        assert_eq!(rt; status_text(rt.alloc(), &status)?.bytes(), want.as_bytes());
+        assert_eq!(rt; status_text(alloc, &status)?.bytes(), want.as_bytes());
     }
     Ok(())
 }

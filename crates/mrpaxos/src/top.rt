@@ -1,90 +1,41 @@
-//! The top call: words, input and output of the program.
+//! The top call: words, configuration, input and output of the program.
 
-ghost use Rattle.std.specs.Prelude.{◌≡◌, ◌↔◌, List, IfOk, IfSome, IsTrue, map, string_bytes};
-ghost use Rattle.schedule.specs.declared.event.ScheduleEvent.{ScheduleEvent};
-ghost use Rattle.schedule.specs.Spelling.{IsSchedule};
-ghost use Rattle.mrpaxos.specs.Top.{status_bytes, status_number, Ends, Judged, IsReplay, IsNoSchedule, IsForSchedule, IsForNone};
+ghost use Rattle.std.specs.Prelude.{◌≡◌, ◌↔◌, IfSome, IsTrue, map, string_bytes};
+ghost use Rattle.world.specs.Ring.{IsRing};
+ghost use Rattle.mrpaxos.specs.Top.{Ends, Configured, Entered, Judged, IsReplay, Answers, refused_of};
 
 use crate::replay::{ReplayFault, replay};
-use mrp_types::{Memory, Octets};
-use outside::{ReadFault, Sink, Source, read_all};
-use schedule::{TextFault, read};
+use crate::status::{InputFault, Status, Which};
+use mrp_config::{ConfigFault, Deployment, RingTable};
+use outside::{Refused, Sink, Source, read_front};
+use schedule::{FaultKind, ScheduleFault, read};
 use std::alloc::Global;
+use world::built_ring;
 
-/// Which of the sources.
-#[derive(Clone, Copy, Debug, PartialEq, Eq)]
-pub enum Which {
-    Input,
-}
+// One byte more than a configuration may have, and than a schedule may have.
+const CONFIG: usize = 1_048_577;
 
-/// What is wrong with the input.
-#[derive(Clone, Copy, Debug, PartialEq, Eq)]
-pub enum InputFault {
-    /// The bytes are no schedule.
-    Unread,
-}
+const INPUT: usize = 67_108_865;
 
-/// How the program ended.
-#[derive(Clone, Copy, Debug, PartialEq, Eq)]
-pub enum Status {
-    /// The command ran to its end.
-    Done,
-    /// The words are no command.
-    Usage,
-    /// The input was refused.
-    Input(InputFault),
-    /// A read failed.
-    Source(Which),
-    /// A write failed.
-    Sink,
-    /// Want of memory.
-    Memory,
-}
-
-impl Status {
-    /// The number with which the program ends.
-    pub fn number(&self) -> u8
-        ensures { result ≡ status_number self.now }
-    {
-        match self {
-            Status::Done => 0,
-            Status::Usage => 1,
-            Status::Input(_) => 3,
-            Status::Source(_) => 4,
-            Status::Sink => 5,
-            Status::Memory => 9,
-        }
-    }
-}
-
-/// What the program tells of a status; nothing of `Done`.
-pub fn status_text(alloc: Global, status: &Status) -> Result<Octets, Memory>
-    ensures { IfOk result (λ text. text ≡ status_bytes status.now) }
-{
-    let text = match status {
-        Status::Done => "",
-        Status::Usage => "usage",
-        Status::Input(InputFault::Unread) => "input 0 unread",
-        Status::Source(Which::Input) => "source input",
-        Status::Sink => "sink",
-        Status::Memory => "memory",
-    };
-    Octets::from_slice(alloc, text.as_bytes())
-}
-
-// The most bytes of a schedule.
-const BYTES: usize = 67_108_864;
-
-/// Runs a command. `replay` reads the input to its end, or to the first byte past the limit of a schedule, and
-/// writes the lines of the system to the output.
-pub fn run<I: Source, O: Sink>(
+/// Runs a command. `replay` reads the configuration to its end and judges it, then the input, and writes the lines of
+/// the system to the output. Of each source it reads no byte after the first past the limit.
+pub fn run<C: Source, I: Source, O: Sink>(
     alloc: Global,
     words: &[String],
+    config: &mut C,
     input: &mut I,
     out: &mut O,
 ) -> Status
     // What the status says of the words, of the bytes that came, and of what was written.
     ensures ends { Ends result (map string_bytes words.now)
+        (record {
+          before = C.left config.old;
+          after = C.left config.new;
+          faults_before = C.faults config.old;
+          faults_after = C.faults config.new;
+          reads_before = C.reads config.old;
+          reads_after = C.reads config.new;
+        })
         (record {
           before = I.left input.old;
           after = I.left input.new;
@@ -95,22 +46,18 @@ pub fn run<I: Source, O: Sink>(
         })
         (record { before = O.taken out.old; after = O.taken out.new; faults_before = O.faults out.old; faults_after = O.faults out.new }) }
 
-    // An input that is a schedule is replayed, unless a call failed or memory ran out.
-    ensures complete { IsReplay (map string_bytes words.now) → IfSome (I.left input.old) (λ bytes.
-        (events : List ScheduleEvent) → IsSchedule bytes events → IsForSchedule result) }
-
-    // An input that is no schedule is refused, unless a read failed or memory ran out.
-    ensures refused { IsReplay (map string_bytes words.now) → IfSome (I.left input.old) (λ bytes.
-        IsNoSchedule bytes → IsForNone result) }
+    // Of a configuration and an input that are told, the first fault is answered or that there is none, unless a call
+    // failed or memory ran out.
+    ensures answers { IsReplay (map string_bytes words.now) → IfSome (C.left config.old) (λ conf.
+        IfSome (I.left input.old) (λ text. Answers result conf text)) }
 {
     if !is_replay(words) {
         return Status::Usage;
     }
-    match read_all(alloc, input, BYTES) {
-        Ok(bytes) => replay_bytes(alloc, bytes.bytes(), out),
-        Err(ReadFault::Failed) => Status::Source(Which::Input),
-        Err(ReadFault::TooLong) => Status::Input(InputFault::Unread),
-        Err(ReadFault::Memory) => Status::Memory,
+    match read_front(alloc, config, CONFIG) {
+        Ok(bytes) => run_config(alloc, bytes.bytes(), input, out),
+        Err(Refused::Failed) => Status::Source(Which::Config),
+        Err(Refused::Memory) => Status::Memory,
     }
 }
 
@@ -124,19 +71,86 @@ fn is_replay(words: &[String]) -> bool
     }
 }
 
-// Replays all of the input.
-fn replay_bytes<O: Sink>(alloc: Global, bytes: &[u8], out: &mut O) -> Status
-    ensures { Judged result bytes.now
+// Judges the bytes of a configuration, and runs over what they describe.
+fn run_config<I: Source, O: Sink>(alloc: Global, bytes: &[u8], input: &mut I, out: &mut O) -> Status
+    ensures { Configured result bytes.now
+        (record {
+          before = I.left input.old;
+          after = I.left input.new;
+          faults_before = I.faults input.old;
+          faults_after = I.faults input.new;
+          reads_before = I.reads input.old;
+          reads_after = I.reads input.new;
+        })
         (record { before = O.taken out.old; after = O.taken out.new; faults_before = O.faults out.old; faults_after = O.faults out.new }) }
 {
-    let schedule = match read(alloc, bytes) {
-        Ok(schedule) => schedule,
-        Err(TextFault::Unread) => return Status::Input(InputFault::Unread),
-        Err(TextFault::Memory) => return Status::Memory,
+    let deployment = match Deployment::from_bytes(alloc, bytes) {
+        Ok(deployment) => deployment,
+        Err(ConfigFault::Memory) => return Status::Memory,
+        Err(fault) => return Status::Config(fault),
     };
-    match replay(alloc, &schedule, out) {
+    match built_ring(&deployment) {
+        Some(ring) => run_input(alloc, &deployment, ring, input, out),
+        None => Status::Config(ConfigFault::NotBuilt),
+    }
+}
+
+// Reads the input, and replays it over the ring of a deployment.
+fn run_input<I: Source, O: Sink>(
+    alloc: Global,
+    deployment: &Deployment,
+    ring: RingTable,
+    input: &mut I,
+    out: &mut O,
+) -> Status
+    requires { IsRing ring }
+    ensures { Entered result deployment.now ring
+        (record {
+          before = I.left input.old;
+          after = I.left input.new;
+          faults_before = I.faults input.old;
+          faults_after = I.faults input.new;
+          reads_before = I.reads input.old;
+          reads_after = I.reads input.new;
+        })
+        (record { before = O.taken out.old; after = O.taken out.new; faults_before = O.faults out.old; faults_after = O.faults out.new }) }
+{
+    match read_front(alloc, input, INPUT) {
+        Ok(bytes) => replay_bytes(alloc, deployment, ring, bytes.bytes(), out),
+        Err(Refused::Failed) => Status::Source(Which::Input),
+        Err(Refused::Memory) => Status::Memory,
+    }
+}
+
+// Replays the bytes of an input.
+fn replay_bytes<O: Sink>(
+    alloc: Global,
+    deployment: &Deployment,
+    ring: RingTable,
+    bytes: &[u8],
+    out: &mut O,
+) -> Status
+    requires { IsRing ring }
+    ensures { Judged result deployment.now ring bytes.now
+        (record { before = O.taken out.old; after = O.taken out.new; faults_before = O.faults out.old; faults_after = O.faults out.new }) }
+{
+    let schedule = match read(alloc, deployment, bytes) {
+        Ok(schedule) => schedule,
+        Err(fault) => return refused(fault),
+    };
+    match replay(alloc, ring, &schedule, out) {
         Ok(()) => Status::Done,
         Err(ReplayFault::Sink) => Status::Sink,
         Err(ReplayFault::Memory) => Status::Memory,
+    }
+}
+
+// Want of memory is no fault of the input.
+fn refused(fault: ScheduleFault) -> Status
+    ensures { result ≡ refused_of fault fault.kind }
+{
+    match fault.kind {
+        FaultKind::Memory => Status::Memory,
+        _ => Status::Input(InputFault::Schedule(fault)),
     }
 }

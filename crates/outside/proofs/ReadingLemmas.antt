@@ -1,24 +1,23 @@
--- What a read of a piece adds to the reading of all.
-use Rattle.std.proofs.Common.{arith, ◌≡◌, ◌≤◌, ◌<◌, ℕ, ◌+◌, List, ◌++◌, length, Option, Ok, Err, ap, ◌∙◌, length-append}
+-- What a read of a piece adds to the reading of a front.
+use Rattle.std.proofs.Common.{arith, ◌≡◌, ◌≤◌, ℕ, ◌+◌, List, ◌++◌, length, Option, Ok, Err, inr, ap, ◌∙◌, length-append}
 use Rattle.std.proofs.KnownBytes.{Consumes-trans}
 use Rattle.std.specs.Prelude.{Result, IsErrAnd}
 use Rattle.std.specs.Io.KnownBytes.{Consumes}
-use Rattle.outside.specs.Counts.{rise}
-use Rattle.outside.specs.Reading.{ReadsAll, PieceComes, PieceSays, FaultSays}
-use Rattle.outside.specs.declared.refused.ReadFault.{ReadFault}
-use Rattle.outside.specs.declared.refused.ReadFault.TheVariants.{Failed, TooLong, Memory}
+use Rattle.outside.specs.Counts.{rise, count_after}
+use Rattle.outside.specs.Reading.{ReadsFront, PieceComes, PieceSays}
+use Rattle.outside.specs.declared.refused.Refused.{Refused}
+use Rattle.outside.specs.declared.refused.Refused.TheVariants.{Failed, Memory}
 
-says : (e : ReadFault) (limit room : ℕ) (c : Option (List ℕ)) (bytes after came : List ℕ) (f0 f1 f2 : ℕ) (all : List ℕ) → f1 ≡ f0 →
-    PieceSays (Err e) room c bytes after came f1 f2 → FaultSays e limit all f0 f2
-says Failed limit room c bytes after came f0 f1 f2 all kept answer = answer.1 ∙ ap rise kept
-says TooLong limit room c bytes after came f0 f1 f2 all kept answer = absurd answer
-says Memory limit room c bytes after came f0 f1 f2 all kept answer = answer ∙ kept
+says : (e : Refused) (room : ℕ) (c : Option (List ℕ)) (bytes after came : List ℕ) (f0 f1 f2 : ℕ) → f1 ≡ f0 →
+    PieceSays (Err e) room c bytes after came f1 f2 → f2 ≡ count_after e f0
+says Failed room c bytes after came f0 f1 f2 kept answer = answer.1 ∙ ap rise kept
+says Memory room c bytes after came f0 f1 f2 kept answer = answer ∙ kept
 
 -- a refused read, after these bytes
-pub refused : (limit room : ℕ) (a b c : Option (List ℕ)) (f0 f1 f2 r0 r1 r2 : ℕ) (bytes after : List ℕ) (e : ReadFault) →
-    Consumes a b bytes → f1 ≡ f0 → r1 ≤ r0 + length bytes → length bytes + room ≤ limit + 1 →
-    PieceComes room b c f1 f2 r1 r2 bytes after (Err e) → ReadsAll limit a c f0 f2 r0 r2 (Err e)
-refused limit room a b c f0 f1 f2 r0 r1 r2 bytes after e before kept made fits piece =
+pub refused : (most room : ℕ) (a b c : Option (List ℕ)) (f0 f1 f2 r0 r1 r2 : ℕ) (bytes after : List ℕ) (e : Refused) →
+    Consumes a b bytes → f1 ≡ f0 → r1 ≤ r0 + length bytes → length bytes + room ≤ most →
+    PieceComes room b c f1 f2 r1 r2 bytes after (Err e) → ReadsFront most a c f0 f2 r0 r2 (Err e)
+refused most room a b c f0 f1 f2 r0 r1 r2 bytes after e before kept made fits piece =
     let came = piece.0 in
     let p = piece.1 in (
       bytes ++ came,
@@ -26,16 +25,16 @@ refused limit room a b c f0 f1 f2 r0 r1 r2 bytes after e before kept made fits p
         consumed = Consumes-trans a b c bytes came before p.consumed;
         stopped = rw length-append (omega (arith, p.fits));
         read = rw length-append (omega (arith, p.read));
-        answer = says e limit room c bytes after came f0 f1 f2 (bytes ++ came) kept p.answer;
+        answer = says e room c bytes after came f0 f1 f2 kept p.answer;
       },
     )
 
--- a byte past the limit
-pub past_limit : (limit room n : ℕ) (a b c : Option (List ℕ)) (f0 f1 f2 r0 r1 r2 : ℕ) (bytes after : List ℕ) →
-    Consumes a b bytes → f1 ≡ f0 → r1 ≤ r0 + length bytes → length bytes + room ≤ limit + 1 →
-    limit < length after →
-    PieceComes room b c f1 f2 r1 r2 bytes after (Ok n) → ReadsAll limit a c f0 f2 r0 r2 (Err TooLong)
-past_limit limit room n a b c f0 f1 f2 r0 r1 r2 bytes after before kept made fits past piece =
+-- so many bytes
+pub full : (most room n : ℕ) (a b c : Option (List ℕ)) (f0 f1 f2 r0 r1 r2 : ℕ) (bytes after : List ℕ) →
+    Consumes a b bytes → f1 ≡ f0 → r1 ≤ r0 + length bytes → length bytes + room ≤ most →
+    most ≤ length after →
+    PieceComes room b c f1 f2 r1 r2 bytes after (Ok n) → ReadsFront most a c f0 f2 r0 r2 (Ok after)
+full most room n a b c f0 f1 f2 r0 r1 r2 bytes after before kept made fits all piece =
     let came = piece.0 in
     let p = piece.1 in
     let is : after ≡ bytes ++ came = p.answer.0 in
@@ -45,15 +44,15 @@ past_limit limit room n a b c f0 f1 f2 r0 r1 r2 bytes after before kept made fit
         consumed = Consumes-trans a b c bytes came before p.consumed;
         stopped = rw length-append (omega (arith, p.fits));
         read = rw length-append (omega (arith, p.read));
-        answer = (rw length-append (omega (arith, p.fits)), p.answer.3 ∙ kept);
+        answer = (is, inr (rw length-append (omega (arith, p.fits))), p.answer.3 ∙ kept);
       },
     )
 
 -- the same, as `?` hands it on
-pub refused_on : (limit room : ℕ) (a b c : Option (List ℕ)) (f0 f1 f2 r0 r1 r2 : ℕ) (bytes after : List ℕ) (e : ReadFault)
-    (r : Result (List ℕ) ReadFault) → IsErrAnd r (λ x. x ≡ e) →
-    Consumes a b bytes → f1 ≡ f0 → r1 ≤ r0 + length bytes → length bytes + room ≤ limit + 1 →
-    PieceComes room b c f1 f2 r1 r2 bytes after (Err e) → ReadsAll limit a c f0 f2 r0 r2 r
-refused_on limit room a b c f0 f1 f2 r0 r1 r2 bytes after e (Ok x) is before kept made fits piece = absurd is
-refused_on limit room a b c f0 f1 f2 r0 r1 r2 bytes after e (Err x) is before kept made fits piece =
-    rw is (refused limit room a b c f0 f1 f2 r0 r1 r2 bytes after e before kept made fits piece)
+pub refused_on : (most room : ℕ) (a b c : Option (List ℕ)) (f0 f1 f2 r0 r1 r2 : ℕ) (bytes after : List ℕ) (e : Refused)
+    (r : Result (List ℕ) Refused) → IsErrAnd r (λ x. x ≡ e) →
+    Consumes a b bytes → f1 ≡ f0 → r1 ≤ r0 + length bytes → length bytes + room ≤ most →
+    PieceComes room b c f1 f2 r1 r2 bytes after (Err e) → ReadsFront most a c f0 f2 r0 r2 r
+refused_on most room a b c f0 f1 f2 r0 r1 r2 bytes after e (Ok x) is before kept made fits piece = absurd is
+refused_on most room a b c f0 f1 f2 r0 r1 r2 bytes after e (Err x) is before kept made fits piece =
+    rw is (refused most room a b c f0 f1 f2 r0 r1 r2 bytes after e before kept made fits piece)

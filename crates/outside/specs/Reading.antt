@@ -1,56 +1,42 @@
--- Reading all of a source, up to a limit.
-use Rattle.std.specs.Prelude.{◌≡◌, ℕ, ◌+◌, ◌≤◌, ◌<◌, List, [], ◌++◌, length, Option, Result, Ok, Err}
+-- Reading the front of a source, up to so many bytes.
+use Rattle.std.specs.Prelude.{◌≡◌, ◌⊎◌, ℕ, ◌+◌, ◌≤◌, ◌<◌, List, [], ◌++◌, length, Option, Result, Ok, Err}
 use Rattle.std.specs.Io.KnownBytes.{Consumes, IsAtEnd}
-use Rattle.outside.specs.Counts.{rise}
+use Rattle.outside.specs.Counts.{rise, count_after}
 use Rattle.outside.specs.declared.refused.Refused.{Refused}
-use Rattle.outside.specs.declared.refused.Refused.TheVariants as refused
-use Rattle.outside.specs.declared.refused.ReadFault.{ReadFault}
-use Rattle.outside.specs.declared.refused.ReadFault.TheVariants as fault
+use Rattle.outside.specs.declared.refused.Refused.TheVariants.{Failed, Memory}
 
--- the same cause
-abbrev pub fault_of : Refused → ReadFault
-fault_of refused.Failed = fault.Failed
-fault_of refused.Memory = fault.Memory
+-- at Ok these are all bytes that there were or the first so many, and no read failed
+abbrev pub AnswerSays : Result (List ℕ) Refused → ℕ → Option (List ℕ) → List ℕ → ℕ → ℕ → Type 0
+AnswerSays (Ok bytes) most new came before now = (bytes ≡ came) × (IsAtEnd new ⊎ (length came ≡ most)) × (now ≡ before)
+AnswerSays (Err refused) most new came before now = now ≡ count_after refused before
 
--- what a fault says of the count of faults, and of the bytes that came
-abbrev pub FaultSays : ReadFault → ℕ → List ℕ → ℕ → ℕ → Type 0
-FaultSays fault.Failed limit came before now = now ≡ rise before
-FaultSays fault.TooLong limit came before now = (length came ≡ limit + 1) × (now ≡ before)
-FaultSays fault.Memory limit came before now = now ≡ before
-
--- at Ok all came, and no read failed
-abbrev pub AnswerSays : Result (List ℕ) ReadFault → ℕ → Option (List ℕ) → List ℕ → ℕ → ℕ → Type 0
-AnswerSays (Ok bytes) limit new came before now = (bytes ≡ came) × IsAtEnd new × (length came ≤ limit) × (now ≡ before)
-AnswerSays (Err e) limit new came before now = FaultSays e limit came before now
-
--- The bytes that came, and what the answer says of them. At most one past the limit came, and each read but the
--- last gave at least one.
-pub record Comes (limit : ℕ) (old new : Option (List ℕ)) (faults_old faults_new reads_old reads_new : ℕ)
-    (result : Result (List ℕ) ReadFault) (came : List ℕ) : Type 0 where
+-- The bytes that came, and what the answer says of them. No more than so many came, and each read but the last gave at
+-- least one.
+pub record Comes (most : ℕ) (old new : Option (List ℕ)) (faults_old faults_new reads_old reads_new : ℕ)
+    (result : Result (List ℕ) Refused) (came : List ℕ) : Type 0 where
   pub consumed : Consumes old new came
-  pub stopped : length came ≤ limit + 1
+  pub stopped : length came ≤ most
   pub read : reads_new ≤ reads_old + length came + 1
-  pub answer : AnswerSays result limit new came faults_old faults_new
+  pub answer : AnswerSays result most new came faults_old faults_new
 
-abbrev pub ReadsAll : ℕ → Option (List ℕ) → Option (List ℕ) → ℕ → ℕ → ℕ → ℕ → Result (List ℕ) ReadFault → Type 0
-ReadsAll limit old new faults_old faults_new reads_old reads_new result =
-    (came : List ℕ) × Comes limit old new faults_old faults_new reads_old reads_new result came
+abbrev pub ReadsFront : ℕ → Option (List ℕ) → Option (List ℕ) → ℕ → ℕ → ℕ → ℕ → Result (List ℕ) Refused → Type 0
+ReadsFront most old new faults_old faults_new reads_old reads_new result =
+    (came : List ℕ) × Comes most old new faults_old faults_new reads_old reads_new result came
 
 -- one read of at most so many bytes, added to those so far
-abbrev pub PieceSays : Result ℕ ReadFault → ℕ → Option (List ℕ) → List ℕ → List ℕ → List ℕ → ℕ → ℕ → Type 0
+abbrev pub PieceSays : Result ℕ Refused → ℕ → Option (List ℕ) → List ℕ → List ℕ → List ℕ → ℕ → ℕ → Type 0
 PieceSays (Ok n) room new old_bytes new_bytes came before now =
     (new_bytes ≡ old_bytes ++ came) × (length came ≡ n) × (n ≡ 0 → 0 < room → IsAtEnd new) × (now ≡ before)
-PieceSays (Err fault.Failed) room new old_bytes new_bytes came before now = (came ≡ []) × (now ≡ rise before)
-PieceSays (Err fault.TooLong) room new old_bytes new_bytes came before now = ⊥
-PieceSays (Err fault.Memory) room new old_bytes new_bytes came before now = now ≡ before
+PieceSays (Err Failed) room new old_bytes new_bytes came before now = (came ≡ []) × (now ≡ rise before)
+PieceSays (Err Memory) room new old_bytes new_bytes came before now = now ≡ before
 
 pub record Piece (room : ℕ) (old new : Option (List ℕ)) (faults_old faults_new reads_old reads_new : ℕ)
-    (bytes_old bytes_new : List ℕ) (result : Result ℕ ReadFault) (came : List ℕ) : Type 0 where
+    (bytes_old bytes_new : List ℕ) (result : Result ℕ Refused) (came : List ℕ) : Type 0 where
   pub consumed : Consumes old new came
   pub fits : length came ≤ room
   pub read : reads_new ≤ reads_old + 1
   pub answer : PieceSays result room new bytes_old bytes_new came faults_old faults_new
 
-abbrev pub PieceComes : ℕ → Option (List ℕ) → Option (List ℕ) → ℕ → ℕ → ℕ → ℕ → List ℕ → List ℕ → Result ℕ ReadFault → Type 0
+abbrev pub PieceComes : ℕ → Option (List ℕ) → Option (List ℕ) → ℕ → ℕ → ℕ → ℕ → List ℕ → List ℕ → Result ℕ Refused → Type 0
 PieceComes room old new faults_old faults_new reads_old reads_new bytes_old bytes_new result =
     (came : List ℕ) × Piece room old new faults_old faults_new reads_old reads_new bytes_old bytes_new result came

@@ -11,9 +11,9 @@ mod sink;
 mod source;
 
 pub use memory::{MemSink, MemSource};
-pub use refused::{ReadFault, Refused};
+pub use refused::Refused;
 pub use sink::{Sink, WriteSink, write_all};
-pub use source::{ReadSource, Source, read_all};
+pub use source::{ReadSource, Source, read_front};
 
 #[cfg(test)]
 mod tests;

@@ -4,9 +4,9 @@ ghost use Rattle.std.specs.Prelude.{◌≡◌, ◌+◌, ◌<◌, ◌≤◌, ◌^
 ghost use Rattle.std.specs.Io.{ReadsAtMost};
 ghost use Rattle.std.specs.Io.KnownBytes.{ReadConsumes};
 ghost use Rattle.outside.specs.Counts.{rise, CountsFault};
-ghost use Rattle.outside.specs.Reading.{ReadsAll, PieceComes};
+ghost use Rattle.outside.specs.Reading.{ReadsFront, PieceComes};
 
-use crate::{ReadFault, Refused};
+use crate::Refused;
 use mrp_types::Octets;
 use std::alloc::{AllocError, Global};
 use std::io::Read;
@@ -34,40 +34,40 @@ pub trait Source {
 // So much is asked of a source at once.
 const PIECE: usize = 65_536;
 
-/// Reads all that the source has, up to a limit of bytes. It reads no byte after the first past the limit, and
-/// each read but the last takes at least one byte.
-pub fn read_all<I: Source>(alloc: Global, source: &mut I, limit: usize) -> Result<Octets, ReadFault>
-    requires { limit < 2 ^ 63 }
-    ensures { ReadsAll limit (I.left source.old) (I.left source.new) (I.faults source.old) (I.faults source.new)
+/// The bytes that the source has, or the first `most` of them. No byte after these is read, and each read but the last
+/// takes at least one.
+pub fn read_front<I: Source>(alloc: Global, source: &mut I, most: usize) -> Result<Octets, Refused>
+    requires { most < 2 ^ 63 }
+    ensures { ReadsFront most (I.left source.old) (I.left source.new) (I.faults source.old) (I.faults source.new)
         (I.reads source.old) (I.reads source.new) result }
 {
     let mut piece = zeros(alloc, PIECE)?;
-    read_pieces(alloc, source, limit, &mut piece)
+    read_pieces(alloc, source, most, &mut piece)
 }
 
-// All that the source has, read by way of a buffer.
+// The front of what the source has, read by way of a buffer.
 fn read_pieces<I: Source>(
     alloc: Global,
     source: &mut I,
-    limit: usize,
+    most: usize,
     piece: &mut [u8],
-) -> Result<Octets, ReadFault>
-    requires fits { limit < 2 ^ 63 }
+) -> Result<Octets, Refused>
+    requires fits { most < 2 ^ 63 }
     requires room { 0 < length piece.old }
-    ensures { ReadsAll limit (I.left source.old) (I.left source.new) (I.faults source.old) (I.faults source.new)
+    ensures { ReadsFront most (I.left source.old) (I.left source.new) (I.faults source.old) (I.faults source.new)
         (I.reads source.old) (I.reads source.new) result }
 {
     let mut bytes = Vec::new(alloc);
-    for _turn in 0..=limit {
-        let room = piece.len().min(limit + 1 - bytes.len());
+    for _turn in 0..most {
+        let room = piece.len().min(most - bytes.len());
         if read_piece(source, &mut piece[..room], &mut bytes)? == 0 {
             return Ok(Octets::from_vec(bytes));
         }
-        if bytes.len() > limit {
-            return Err(ReadFault::TooLong);
+        if bytes.len() >= most {
+            return Ok(Octets::from_vec(bytes));
         }
     }
-    Err(ReadFault::TooLong)
+    Ok(Octets::from_vec(bytes))
 }
 
 // One read, whose bytes are added to those so far; answers how many came.
@@ -75,7 +75,7 @@ fn read_piece<I: Source>(
     source: &mut I,
     piece: &mut [u8],
     bytes: &mut Vec<u8>,
-) -> Result<usize, ReadFault>
+) -> Result<usize, Refused>
     ensures { PieceComes (length piece.old) (I.left source.old) (I.left source.new) (I.faults source.old)
         (I.faults source.new) (I.reads source.old) (I.reads source.new) bytes.old.items bytes.new.items result }
 {

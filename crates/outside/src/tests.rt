@@ -10,28 +10,24 @@ fn source_of(alloc: Global, bytes: &[u8], failing: u64) -> Result<MemSource, Fai
 }
 
 #[test]
-fn all_up_to_a_limit(rt: HostRuntime) -> Result<(), Fail> {
+fn a_front_of_a_source(rt: HostRuntime) -> Result<(), Fail> {
     let alloc = rt.alloc();
     let mut source = source_of(alloc, b"bytes", 9)?;
     assert_eq!(rt;
-        read_all(alloc, &mut source, 5)?.bytes(),
+        read_front(alloc, &mut source, 6)?.bytes(),
         b"bytes".as_slice()
     );
-    assert!(rt; read_all(alloc, &mut source, 5)?.is_empty());
-    let mut longer = source_of(alloc, b"bytes.", 9)?;
+    assert!(rt; read_front(alloc, &mut source, 5)?.is_empty());
+    let mut longer = source_of(alloc, b"bytes.ab", 9)?;
+    assert!(rt; read_front(alloc, &mut longer, 0)?.is_empty());
     assert_eq!(rt;
-        read_all(alloc, &mut longer, 5).err(),
-        Some(ReadFault::TooLong)
+        read_front(alloc, &mut longer, 5)?.bytes(),
+        b"bytes".as_slice()
     );
-    assert!(rt; read_all(alloc, &mut longer, 5)?.is_empty());
-    let mut last = [0; 3];
-    let mut more = source_of(alloc, b"bytes.ab", 9)?;
     assert_eq!(rt;
-        read_all(alloc, &mut more, 5).err(),
-        Some(ReadFault::TooLong)
+        read_front(alloc, &mut longer, 9)?.bytes(),
+        b".ab".as_slice()
     );
-    assert_eq!(rt; more.read(&mut last), Ok(2));
-    assert_eq!(rt; last.as_slice(), b"ab\0".as_slice());
     Ok(())
 }
 
@@ -41,11 +37,11 @@ fn a_read_fails_in_mid_stream(rt: HostRuntime) -> Result<(), Fail> {
     let bytes = vec![in alloc; 7; 70_000]?;
     let mut source = source_of(alloc, &bytes, 1)?;
     assert_eq!(rt;
-        read_all(alloc, &mut source, 70_000).err(),
-        Some(ReadFault::Failed)
+        read_front(alloc, &mut source, 70_000).err(),
+        Some(Refused::Failed)
     );
     assert_eq!(rt;
-        read_all(alloc, &mut source, 70_000)?.len(),
+        read_front(alloc, &mut source, 70_000)?.len(),
         70_000 - 65_536
     );
     Ok(())
@@ -68,13 +64,13 @@ fn readers_and_writers_of_std(rt: HostRuntime) -> Result<(), Fail> {
     let alloc = rt.alloc();
     let mut source = ReadSource::new(Some(b"bytes".as_slice()));
     assert_eq!(rt;
-        read_all(alloc, &mut source, 5)?.bytes(),
+        read_front(alloc, &mut source, 5)?.bytes(),
         b"bytes".as_slice()
     );
     let mut missing = ReadSource::new(None::<&[u8]>);
     assert_eq!(rt;
-        read_all(alloc, &mut missing, 5).err(),
-        Some(ReadFault::Failed)
+        read_front(alloc, &mut missing, 5).err(),
+        Some(Refused::Failed)
     );
     let mut taken = Vec::new(alloc);
     let mut sink = WriteSink::new(&mut taken);

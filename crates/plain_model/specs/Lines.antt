@@ -6,13 +6,14 @@ use Rattle.mrp_types.specs.declared.place.Place.{Place}
 use Rattle.mrp_types.specs.declared.value.Value.{Value}
 use Rattle.mrp_types.specs.Book.{Learning, book_of}
 use Rattle.transcript.specs.declared.line.Line.{Line}
-use Rattle.transcript.specs.declared.line.Line.TheVariants.{Learn, Deliver, End}
+use Rattle.transcript.specs.declared.line.Line.TheVariants.{Learn, Deliver, Frame, End}
 
 -- what the learn lines say, in order
 abbrev pub learnings : List Line → List Learning
 learnings [] = []
 learnings (Learn node ring lo hi value ∷ lines) = record { ring = ring; lo = lo; hi = hi; value = value } ∷ learnings lines
 learnings (Deliver node ring inst ∷ lines) = learnings lines
+learnings (Frame number shown ∷ lines) = learnings lines
 learnings (End events ∷ lines) = learnings lines
 
 -- the book: per ring and instance the value of the first learn line that covers it
@@ -25,6 +26,7 @@ abbrev pub position_after : (Place → ℕ) → NodeId → ℕ → Line → ℕ
 position_after number node now (Learn other ring lo hi value) = now
 position_after number node now (Deliver other ring inst) =
     if other.0 == node.0 then number (record { ring = ring; inst = inst }) + 1 else now
+position_after number node now (Frame at shown) = now
 position_after number node now (End events) = now
 
 -- the position of a node after lines, from a position on
@@ -37,6 +39,7 @@ abbrev pub deliveries : NodeId → List Line → List ℕ
 deliveries node [] = []
 deliveries node (Learn other ring lo hi value ∷ lines) = deliveries node lines
 deliveries node (Deliver other ring inst ∷ lines) = if other.0 == node.0 then inst ∷ deliveries node lines else deliveries node lines
+deliveries node (Frame number shown ∷ lines) = deliveries node lines
 deliveries node (End events ∷ lines) = deliveries node lines
 
 -- so many numbers, one after another from the first on

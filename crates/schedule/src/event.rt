@@ -15,6 +15,10 @@ pub enum ScheduleEvent {
     Flow { count: u32 },
     /// The frame of this number is delivered, where there is one; the cursor stays.
     Deliver { frame: u64 },
+    /// The cursor passes up to so many frames, which nobody gets.
+    Lose { count: u32 },
+    /// The frame of this number is printed, where there is one; nothing moves.
+    List { frame: u64 },
 }
 
 /// Events in order, and contracts see the list of them.

@@ -2,11 +2,15 @@
 #![tactic(auto)]
 
 mod event;
+mod fault;
 mod reading;
+mod words;
+mod writing;
 
 pub use event::{Schedule, ScheduleEvent};
+pub use fault::{FaultKind, ScheduleFault};
 pub use reading::read;
-pub use text_lines::TextFault;
+pub use writing::write;
 
 #[cfg(test)]
 mod tests;

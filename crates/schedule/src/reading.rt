@@ -1,120 +1,121 @@
 //! Schedules from text.
 
-ghost use Rattle.std.specs.Prelude.{◌≡◌, List, Some, IfOk};
-ghost use Rattle.text_lines.specs.Split.{words_of};
-ghost use Rattle.text_lines.specs.Reading.{Says};
+ghost use Rattle.std.specs.Prelude.{◌≡◌, List, Ok, IfOk, IfErr};
 ghost use Rattle.schedule.specs.declared.event.ScheduleEvent.{ScheduleEvent};
 ghost use Rattle.schedule.specs.Spelling.{IsSchedule};
-ghost use Rattle.schedule.specs.Reading.{schedule_of, bounded, events_of, event_of, ask_of, flow_of, deliver_of};
+ghost use Rattle.schedule.specs.Faults.{Judges, Answers};
+ghost use Rattle.schedule.specs.Reading.{is_routed, line_of, bounded, at_line, schedule_of, line_with, NamesFirst};
 
-use crate::{Schedule, ScheduleEvent};
-use command_codec::Command;
-use mrp_types::{ClientId, LogId};
+use crate::fault::kind_of;
+use crate::words::read_event;
+use crate::{FaultKind, Schedule, ScheduleEvent, ScheduleFault};
+use mrp_config::Deployment;
 use std::alloc::Global;
-use text_lines::{TextFault, Words, split_line};
+use text_lines::{FirstLine, split_line};
 
 // The most events and bytes of a schedule.
-const EVENTS: usize = 1 << 20;
+const EVENTS: u32 = 1 << 20;
 
 const BYTES: usize = 67_108_864;
 
-// Clients have numbers below this.
-const CLIENTS: u64 = 2;
-
-// One `flow` delivers fewer frames than this.
-const FLOW: u64 = 100_001;
-
-// The greatest length of a value in bytes.
-const STORED: usize = 2_048;
-
-/// The schedule that the bytes spell, all of the bytes.
-pub fn read(alloc: Global, bytes: &[u8]) -> Result<Schedule, TextFault>
+/// The schedule that the bytes spell, all of the bytes, over a deployment; or the first line at fault.
+///
+/// A line is at fault by the first of these: it is past the first 1,048,576 lines, or the part of the text that ends
+/// with it has more than 67,108,864 bytes (`TooMany`); its words from the left (`Word`, `Number`, `Range`); words
+/// behind them (`Left`); no line feed ends it (`Cut`); no ring orders its command (`Route`). `Memory` comes wherever
+/// memory runs out.
+pub fn read(alloc: Global, deployment: &Deployment, bytes: &[u8]) -> Result<Schedule, ScheduleFault>
     // What is read is spelled so.
-    ensures found { IfOk result (λ schedule. IsSchedule bytes.now schedule) }
+    ensures found { IfOk result (λ schedule. IsSchedule deployment.now bytes.now schedule) }
     // What is spelled so is read, unless memory runs out.
-    ensures only { (events : List ScheduleEvent) → IsSchedule bytes.now events → Says (λ s. s) (Some events) result }
-    ensures exact { Says (λ s. s) (schedule_of bytes.now) result }
+    ensures only { (events : List ScheduleEvent) → IsSchedule deployment.now bytes.now events → Answers (Ok events) result }
+    // A fault is of the first line at fault.
+    ensures first { IfErr result (λ fault. NamesFirst deployment.now bytes.now fault) }
+    ensures exact { Answers (schedule_of deployment.now bytes.now) result }
 {
-    if bytes.len() > BYTES {
-        return Err(TextFault::Unread);
-    }
-    read_lines(alloc, bytes)
+    read_lines(alloc, deployment, bytes)
 }
 
-fn read_lines(alloc: Global, bytes: &[u8]) -> Result<Schedule, TextFault>
-    ensures { Says (λ s. s) (bounded (events_of bytes.now)) result }
+fn read_lines(
+    alloc: Global,
+    deployment: &Deployment,
+    bytes: &[u8],
+) -> Result<Schedule, ScheduleFault>
+    ensures { Answers (schedule_of deployment.now bytes.now) result }
 {
     let mut events = Vec::new(alloc);
     let mut rest = bytes;
-    for _turn in 0..=EVENTS {
-        if rest.is_empty() {
+    for line in 1..=EVENTS {
+        let Some(first) = split_line(rest) else {
             return Ok(Schedule::from_vec(events));
-        }
-        let Some((line, after)) = split_line(rest) else {
-            return Err(TextFault::Unread);
         };
-        events.push(read_event(alloc, line)?)?;
-        rest = after;
+        let end = bytes.len() - first.after.len();
+        let event = read_numbered(alloc, deployment, line, end, first)?;
+        let Ok(()) = events.push(event) else {
+            return Err(ScheduleFault {
+                line,
+                kind: FaultKind::Memory,
+            });
+        };
+        rest = first.after;
     }
-    Err(TextFault::Unread)
-}
-
-#[tactic(auto, unfolding(crate::specs::Reading::event_of))]
-fn read_event(alloc: Global, line: &[u8]) -> Result<ScheduleEvent, TextFault>
-    ensures { Says (λ e. e) (event_of (words_of line.now)) result }
-{
-    let mut words = Words::new(line);
-    let word = words.word()?;
-    if word == b"ask".as_slice() {
-        return read_ask(alloc, &mut words);
+    if rest.is_empty() {
+        return Ok(Schedule::from_vec(events));
     }
-    if word == b"flow".as_slice() {
-        return read_flow(alloc, &mut words);
-    }
-    if word == b"deliver".as_slice() {
-        return read_deliver(alloc, &mut words);
-    }
-    Err(TextFault::Unread)
-}
-
-#[tactic(auto, unfolding(crate::specs::Reading::ask_of))]
-fn read_ask(alloc: Global, words: &mut Words<'_>) -> Result<ScheduleEvent, TextFault>
-    ensures { Says (λ e. e) (ask_of words.old) result }
-{
-    let client = ClientId(words.number_below(alloc, CLIENTS)? as u8);
-    words.keyword(b"append")?;
-    words.keyword(b"0")?;
-    let value = words.hex(alloc)?;
-    words.end()?;
-    if value.len() > STORED {
-        return Err(TextFault::Unread);
-    }
-    let log = LogId(0);
-    Ok(ScheduleEvent::Ask {
-        client,
-        command: Command::Append { log, value },
+    Err(ScheduleFault {
+        line: EVENTS + 1,
+        kind: FaultKind::TooMany,
     })
 }
 
-#[tactic(auto, unfolding(crate::specs::Reading::flow_of))]
-fn read_flow(alloc: Global, words: &mut Words<'_>) -> Result<ScheduleEvent, TextFault>
-    ensures { Says (λ e. e) (flow_of words.old) result }
+// The event of the line of this number.
+fn read_numbered(
+    alloc: Global,
+    deployment: &Deployment,
+    line: u32,
+    end: usize,
+    first: FirstLine<'_>,
+) -> Result<ScheduleEvent, ScheduleFault>
+    ensures { Answers (at_line line (bounded deployment.now end (line_with first.entry.text.now first.entry.ended))) result }
 {
-    let count = words.number_below(alloc, FLOW)?;
-    words.end()?;
-    if count == 0 {
-        return Err(TextFault::Unread);
+    match read_line(alloc, deployment, end, first) {
+        Ok(event) => Ok(event),
+        Err(kind) => Err(ScheduleFault { line, kind }),
     }
-    Ok(ScheduleEvent::Flow {
-        count: count as u32,
-    })
 }
 
-#[tactic(auto, unfolding(crate::specs::Reading::deliver_of))]
-fn read_deliver(alloc: Global, words: &mut Words<'_>) -> Result<ScheduleEvent, TextFault>
-    ensures { Says (λ e. e) (deliver_of words.old) result }
+// The event of a line; the part of the text that ends with it has so many bytes.
+#[tactic(auto, unfolding(crate::specs::Reading::line_of))]
+fn read_line(
+    alloc: Global,
+    deployment: &Deployment,
+    end: usize,
+    line: FirstLine<'_>,
+) -> Result<ScheduleEvent, FaultKind>
+    ensures { Judges (bounded deployment.now end (line_with line.entry.text.now line.entry.ended)) result }
 {
-    let frame = words.number(alloc)?;
-    words.end()?;
-    Ok(ScheduleEvent::Deliver { frame })
+    if end > BYTES {
+        return Err(FaultKind::TooMany);
+    }
+    let event = match read_event(alloc, deployment, line.text) {
+        Ok(event) => event,
+        Err(fault) => return Err(kind_of(fault)),
+    };
+    if !line.ended {
+        return Err(FaultKind::Cut);
+    }
+    if !has_ring(deployment, &event) {
+        return Err(FaultKind::Route);
+    }
+    Ok(event)
+}
+
+// Whether a ring orders the command of the event, if it has one.
+fn has_ring(deployment: &Deployment, event: &ScheduleEvent) -> bool
+    ensures { result ≡ is_routed deployment.now event.now }
+{
+    match event {
+        ScheduleEvent::Ask { client: _, command } => deployment.route(command).is_ok(),
+        _ => true,
+    }
 }

@@ -1,9 +1,7 @@
 -- Words and lines are read as they are spelled.
-use Rattle.std.proofs.Common.{arith, ◌≡◌, ◌≢◌, ◌<◌, ℕ, ◌+◌, List, [], ◌∷◌, ◌++◌, Option, Some, None, refl, sym, ap, ◌∙◌, ◌==◌, if◌then◌else◌, Bool, true, false, append_assoc, append-nil}
-use Rattle.std.proofs.lemmas.Grind.{common_steps}
+use Rattle.std.proofs.Common.{arith, ◌≡◌, ◌≢◌, ℕ, List, [], ◌∷◌, ◌++◌, Option, Some, None, refl, sym, ap, ◌∙◌, ◌==◌, if◌then◌else◌, Bool, true, false, append_assoc, append-nil}
 use Rattle.std.specs.List.{flat_map, AllByRecursion}
-use Rattle.std.specs.Option.{option_map}
-use Rattle.text_lines.specs.Split.{words_of, place_of, onto_first, first_line, onto_line, lines_of, onto_lines}
+use Rattle.text_lines.specs.Split.{Line, ended_line, all_ended, line_bytes, unlined, words_of, place_of, onto_first, first_line, onto_line, lines_of, onto_lines}
 use Rattle.text_lines.proofs.Places.{words_of_at, words_at, lines_of_at, lines_at}
 use Rattle.text_lines.specs.Text.{spaced, joined}
 
@@ -16,10 +14,10 @@ test_false a b apart = grind arith
 
 -- ---- lines
 
-pub first_line_of : (line rest : List ℕ) → Lacks 10 line → first_line (line ++ 10 ∷ rest) ≡ Some (line, rest)
+pub first_line_of : (line rest : List ℕ) → Lacks 10 line → first_line (line ++ 10 ∷ rest) ≡ Some (line, true, rest)
 first_line_of [] rest lacks = refl
 first_line_of (b ∷ line) rest lacks =
-    rw (test_false b 10 lacks.0) (ap (onto_line b) (first_line_of line rest lacks.1))
+    rw (test_false b 10 lacks.0) (ap (λ (first : Option (List ℕ × Bool × List ℕ)). Some (onto_line b first)) (first_line_of line rest lacks.1))
 
 -- ---- words
 
@@ -59,43 +57,32 @@ joined_words_of (b ∷ rest) = joined_test b rest (b == 32) refl (joined_words_o
 
 -- ---- all lines
 
--- lines with their line feeds
-abbrev pub unlined : List (List ℕ) → List ℕ
-unlined lines = flat_map (λ (line : List ℕ). line ++ 10 ∷ []) lines
-
-lines_at_some : (bytes line rest : List ℕ) → lines_at bytes (Some (line, rest)) ≡ option_map (λ (ls : List (List ℕ)). line ∷ ls) (lines_of rest)
-lines_at_some [] line rest = refl
-lines_at_some (b ∷ bytes) line rest = refl
-
-pub lines_of_unlined : (lines : List (List ℕ)) → AllByRecursion (Lacks 10) lines → lines_of (unlined lines) ≡ Some lines
+pub lines_of_unlined : (texts : List (List ℕ)) → AllByRecursion (Lacks 10) texts → lines_of (unlined (all_ended texts)) ≡ all_ended texts
 lines_of_unlined [] lacks = refl
-lines_of_unlined (line ∷ lines) lacks =
-    let whole = line ++ 10 ∷ unlined lines in
-    ap lines_of (append_assoc line (10 ∷ []) (unlined lines)) ∙ lines_of_at whole
-    ∙ ap (lines_at whole) (first_line_of line (unlined lines) lacks.0) ∙ lines_at_some whole line (unlined lines)
-    ∙ ap (option_map (λ (ls : List (List ℕ)). line ∷ ls)) (lines_of_unlined lines lacks.1)
+lines_of_unlined (text ∷ texts) lacks =
+    let rest = unlined (all_ended texts) in
+    ap lines_of (append_assoc text (10 ∷ []) rest) ∙ lines_of_at (text ++ 10 ∷ rest) ∙ ap lines_at (first_line_of text rest lacks.0)
+    ∙ ap (λ (lines : List Line). ended_line text ∷ lines) (lines_of_unlined texts lacks.1)
 
-line_first : (b : ℕ) (rest : List ℕ) (o : Option (List (List ℕ))) (lines : List (List ℕ)) → b ≡ 10 →
-    ((ls : List (List ℕ)) → o ≡ Some ls → rest ≡ unlined ls) → option_map (λ (ls : List (List ℕ)). [] ∷ ls) o ≡ Some lines → b ∷ rest ≡ unlined lines
-line_first b rest None lines is before h = absurd (grind arith)
-line_first b rest (Some ls) lines is before h =
-    let same : [] ∷ ls ≡ lines = cc in
-    rw (is, before ls refl) (ap unlined same)
+onto_unlined : (b : ℕ) (lines : List Line) → unlined (onto_lines b lines) ≡ b ∷ unlined lines
+onto_unlined b [] = refl
+onto_unlined b (line ∷ lines) = refl
 
-line_onto : (b : ℕ) (rest : List ℕ) (o : Option (List (List ℕ))) (lines : List (List ℕ)) →
-    ((ls : List (List ℕ)) → o ≡ Some ls → rest ≡ unlined ls) → onto_lines b o ≡ Some lines → b ∷ rest ≡ unlined lines
-line_onto b rest None lines before h = absurd (grind arith)
-line_onto b rest (Some []) lines before h = absurd (grind arith)
-line_onto b rest (Some (line ∷ ls)) lines before h =
-    let same : (b ∷ line) ∷ ls ≡ lines = cc in
-    ap (λ (l : List ℕ). b ∷ l) (before (line ∷ ls) refl) ∙ ap unlined same
+unlined_test : (b : ℕ) (rest : List ℕ) (t : Bool) → (b == 10) ≡ t → unlined (lines_of rest) ≡ rest →
+    unlined (if t then ended_line [] ∷ lines_of rest else onto_lines b (lines_of rest)) ≡ b ∷ rest
+unlined_test b rest true is before =
+    let feed : b ≡ 10 = grind arith in
+    rw feed (ap (λ (l : List ℕ). 10 ∷ l) before)
+unlined_test b rest false is before = onto_unlined b (lines_of rest) ∙ ap (λ (l : List ℕ). b ∷ l) before
 
-lines_test : (b : ℕ) (rest : List ℕ) (t : Bool) (lines : List (List ℕ)) → (b == 10) ≡ t → ((ls : List (List ℕ)) → lines_of rest ≡ Some ls → rest ≡ unlined ls) →
-    (if t then option_map (λ (ls : List (List ℕ)). [] ∷ ls) (lines_of rest) else onto_lines b (lines_of rest)) ≡ Some lines → b ∷ rest ≡ unlined lines
-lines_test b rest true lines is before h = line_first b rest (lines_of rest) lines (grind arith) before h
-lines_test b rest false lines is before h = line_onto b rest (lines_of rest) lines before h
+-- the lines of bytes are these bytes
+pub unlined_lines_of : (bytes : List ℕ) → unlined (lines_of bytes) ≡ bytes
+unlined_lines_of [] = refl
+unlined_lines_of (b ∷ rest) = unlined_test b rest (b == 10) refl (unlined_lines_of rest)
 
-pub unlined_lines_of : (bytes : List ℕ) (lines : List (List ℕ)) → lines_of bytes ≡ Some lines → bytes ≡ unlined lines
-unlined_lines_of [] [] h = refl
-unlined_lines_of [] (line ∷ lines) h = absurd (grind arith)
-unlined_lines_of (b ∷ rest) lines h = lines_test b rest (b == 10) lines refl (unlined_lines_of rest) h
+-- bytes are their first line and what is behind it
+pub first_and_rest : (bytes text after : List ℕ) (ended : Bool) → first_line bytes ≡ Some (text, ended, after) →
+    bytes ≡ line_bytes (record { text = text; ended = ended }) ++ after
+first_and_rest bytes text after ended first =
+    sym (unlined_lines_of bytes) ∙ ap unlined (lines_of_at bytes ∙ ap lines_at first)
+    ∙ ap (λ (l : List ℕ). line_bytes (record { text = text; ended = ended }) ++ l) (unlined_lines_of after)

@@ -1,12 +1,22 @@
 -- What the place of a byte says of lines and words.
-use Rattle.std.proofs.Common.{arith, ◌≡◌, ◌≢◌, ◌<◌, ◌≤◌, ℕ, ◌+◌, ◌-◌, suc, List, [], ◌∷◌, ◌++◌, length, take, drop, get_or, Option, Some, None, refl, sym, ap, ◌∙◌, ◌==◌, if◌then◌else◌, Bool, true, false, add-one, drop-cons, subst}
+use Rattle.std.proofs.Common.{arith, ◌≡◌, ◌≢◌, ◌<◌, ◌≤◌, ℕ, ◌+◌, suc, List, [], ◌∷◌, length, take, drop, get_or, Option, Some, None, refl, sym, ap, ◌∙◌, ◌==◌, if◌then◌else◌, Bool, true, false, add-one, drop-cons}
 use Rattle.std.proofs.lemmas.Grind.{common_steps}
 use Rattle.std.specs.Option.{option_map}
-use Rattle.text_lines.specs.Split.{place_of, words_of, onto_first, first_line, onto_line, lines_of, onto_lines}
+use Rattle.text_lines.specs.Split.{Line, ended_line, place_of, words_of, onto_first, first_line, onto_line, lines_of, onto_lines}
 
--- the line before a line feed at a place, and what follows
-abbrev pub cut_at : List ℕ → ℕ → List ℕ × List ℕ
-cut_at bytes end = (take end bytes, drop (end + 1) bytes)
+-- the first line where the first line feed stands at a place
+abbrev pub line_at : List ℕ → Option ℕ → Option (List ℕ × Bool × List ℕ)
+line_at [] place = None
+line_at (b ∷ rest) None = Some (b ∷ rest, false, [])
+line_at (b ∷ rest) (Some end) = Some (take end (b ∷ rest), true, drop (end + 1) (b ∷ rest))
+
+pub line_whole : (bytes : List ℕ) → 0 < length bytes → Some (bytes, false, []) ≡ line_at bytes None
+line_whole [] some = absurd (grind arith)
+line_whole (b ∷ rest) some = refl
+
+pub line_cut : (bytes : List ℕ) (end : ℕ) → 0 < length bytes → Some (take end bytes, true, drop (end + 1) bytes) ≡ line_at bytes (Some end)
+line_cut [] end some = absurd (grind arith)
+line_cut (b ∷ rest) end some = refl
 
 -- one place further
 abbrev pub further : Option ℕ → Option ℕ
@@ -53,17 +63,18 @@ not_found byte n bytes all so_far =
 
 -- ---- lines and words
 
-line_step : (b : ℕ) (rest : List ℕ) (place : Option ℕ) →
-    onto_line b (option_map (cut_at rest) place) ≡ option_map (cut_at (b ∷ rest)) (further place)
-line_step b rest None = refl
-line_step b rest (Some k) = rw (add-one, add-one) refl
+line_step : (b c : ℕ) (rest : List ℕ) (place : Option ℕ) → Some (onto_line b (line_at (c ∷ rest) place)) ≡ line_at (b ∷ c ∷ rest) (further place)
+line_step b c rest None = refl
+line_step b c rest (Some k) = rw (add-one, add-one) refl
 
-line_test : (b : ℕ) (rest : List ℕ) (t : Bool) → first_line rest ≡ option_map (cut_at rest) (place_of 10 rest) →
-    (if t then Some ([], rest) else onto_line b (first_line rest)) ≡ option_map (cut_at (b ∷ rest)) (if t then Some 0 else further (place_of 10 rest))
+line_test : (b : ℕ) (rest : List ℕ) (t : Bool) → first_line rest ≡ line_at rest (place_of 10 rest) →
+    Some (if t then ([], true, rest) else onto_line b (first_line rest)) ≡ line_at (b ∷ rest) (if t then Some 0 else further (place_of 10 rest))
 line_test b rest true before = refl
-line_test b rest false before = rw before (line_step b rest (place_of 10 rest))
+line_test b [] false before = refl
+line_test b (c ∷ rest) false before =
+    ap (λ (first : Option (List ℕ × Bool × List ℕ)). Some (onto_line b first)) before ∙ line_step b c rest (place_of 10 (c ∷ rest))
 
-pub first_line_at : (bytes : List ℕ) → first_line bytes ≡ option_map (cut_at bytes) (place_of 10 bytes)
+pub first_line_at : (bytes : List ℕ) → first_line bytes ≡ line_at bytes (place_of 10 bytes)
 first_line_at [] = refl
 first_line_at (b ∷ rest) = line_test b rest (b == 10) (first_line_at rest)
 
@@ -86,29 +97,19 @@ words_of_at [] = refl
 words_of_at (b ∷ rest) = word_test b rest (b == 32) (words_of_at rest)
 
 -- the lines where the first line is known
-abbrev pub lines_at : List ℕ → Option (List ℕ × List ℕ) → Option (List (List ℕ))
-lines_at [] None = Some []
-lines_at (b ∷ rest) None = None
-lines_at bytes (Some (line, rest)) = option_map (λ (lines : List (List ℕ)). line ∷ lines) (lines_of rest)
+abbrev pub lines_at : Option (List ℕ × Bool × List ℕ) → List Line
+lines_at None = []
+lines_at (Some line) = record { text = line.0; ended = line.1 } ∷ lines_of line.2
 
-onto_more : (b : ℕ) (line : List ℕ) (lines : Option (List (List ℕ))) →
-    onto_lines b (option_map (λ (ls : List (List ℕ)). line ∷ ls) lines) ≡ option_map (λ (ls : List (List ℕ)). (b ∷ line) ∷ ls) lines
-onto_more b line None = refl
-onto_more b line (Some ls) = refl
+lines_step : (b : ℕ) (first : Option (List ℕ × Bool × List ℕ)) → onto_lines b (lines_at first) ≡ lines_at (Some (onto_line b first))
+lines_step b None = refl
+lines_step b (Some line) = refl
 
-lines_step : (b : ℕ) (rest : List ℕ) (first : Option (List ℕ × List ℕ)) →
-    onto_lines b (lines_at rest first) ≡ lines_at (b ∷ rest) (onto_line b first)
-lines_step b [] None = refl
-lines_step b (c ∷ rest) None = refl
-lines_step b [] (Some (line, after)) = onto_more b line (lines_of after)
-lines_step b (c ∷ rest) (Some (line, after)) = onto_more b line (lines_of after)
-
-lines_test : (b : ℕ) (rest : List ℕ) (t : Bool) → lines_of rest ≡ lines_at rest (first_line rest) →
-    (if t then option_map (λ (lines : List (List ℕ)). [] ∷ lines) (lines_of rest) else onto_lines b (lines_of rest))
-    ≡ lines_at (b ∷ rest) (if t then Some ([], rest) else onto_line b (first_line rest))
+lines_test : (b : ℕ) (rest : List ℕ) (t : Bool) → lines_of rest ≡ lines_at (first_line rest) →
+    (if t then ended_line [] ∷ lines_of rest else onto_lines b (lines_of rest)) ≡ lines_at (Some (if t then ([], true, rest) else onto_line b (first_line rest)))
 lines_test b rest true before = refl
-lines_test b rest false before = ap (onto_lines b) before ∙ lines_step b rest (first_line rest)
+lines_test b rest false before = ap (onto_lines b) before ∙ lines_step b (first_line rest)
 
-pub lines_of_at : (bytes : List ℕ) → lines_of bytes ≡ lines_at bytes (first_line bytes)
+pub lines_of_at : (bytes : List ℕ) → lines_of bytes ≡ lines_at (first_line bytes)
 lines_of_at [] = refl
 lines_of_at (b ∷ rest) = lines_test b rest (b == 10) (lines_of_at rest)

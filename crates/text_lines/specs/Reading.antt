@@ -1,82 +1,104 @@
--- Reading words from the left.
-use Rattle.std.specs.Prelude.{ℕ, ◌≡◌, ◌^◌, ◌==◌, nat_lt, ◌&&◌, if◌then◌else◌, List, [], ◌∷◌, Option, Some, None, Result, Ok, Err, ⊤, codes, length}
+-- Reading words from the left: what is read, or the first fault.
+use Rattle.std.specs.Prelude.{ℕ, ◌≡◌, ◌^◌, ◌==◌, ◌⊎◌, nat_lt, Bool, true, false, not, ◌&&◌, if◌then◌else◌, List, [], ◌∷◌, Result, Ok, Err, codes, length}
+use Rattle.std.specs.List.{list_all}
+use Rattle.std.specs.Char.{is_ascii_digit}
 use Rattle.std.specs.Str.{bytes_eq}
 use Rattle.std.specs.Str.Parse.{digits_value}
-use Rattle.std.specs.Fmt.{decimal}
 use Rattle.hex.specs.Hex.{encode_lower, decode_of}
 use Rattle.hex.specs.declared.error.FromHexError.{FromHexError}
 use Rattle.hex.specs.declared.error.FromHexError.TheVariants.{OutOfMemory}
 use Rattle.text_lines.specs.declared.fault.TextFault.{TextFault}
-use Rattle.text_lines.specs.declared.fault.TextFault.TheVariants.{Unread, Memory}
+use Rattle.text_lines.specs.declared.fault.TextFault.TheVariants.{Word, Number, Range, Hex, Left, Memory}
 
--- the second step, where the first gave a value
+-- the second step, where the first found no fault
 infixl 10 ◌>>=◌
-abbrev pub ◌>>=◌ : {A B : Type 0} → Option A → (A → Option B) → Option B
-(Some x) >>= f = f x
-None >>= f = None
+abbrev pub ◌>>=◌ : {A B E : Type 0} → Result A E → (A → Result B E) → Result B E
+(Ok x) >>= f = f x
+(Err e) >>= f = Err e
 
--- What a call read, seen by view, and what is left, are what reading gives, unless memory ran out.
-abbrev pub ReadFails : {Y : Type 0} → TextFault → Option Y → Type 0
-ReadFails Memory read = ⊤
-ReadFails Unread read = read ≡ None
+-- What a call read, seen by view, and what is left, are what reading gives.
+abbrev pub Gives : {X Y W : Type 0} → (X → Y) → Result (Y × W) TextFault → Result X TextFault → W → Type 0
+Gives view read (Ok x) left = read ≡ Ok (view x, left)
+Gives view read (Err fault) left = read ≡ Err fault
 
-abbrev pub Reads : {X Y W : Type 0} → (X → Y) → Option (Y × W) → Result X TextFault → W → Type 0
-Reads view read (Ok x) left = read ≡ Some (view x, left)
-Reads view read (Err fault) left = ReadFails fault read
+-- The same, unless memory ran out.
+abbrev pub Fails : {Y : Type 0} → Result Y TextFault → TextFault → Type 0
+Fails read fault = (fault ≡ Memory) ⊎ (read ≡ Err fault)
+
+abbrev pub Reads : {X Y W : Type 0} → (X → Y) → Result (Y × W) TextFault → Result X TextFault → W → Type 0
+Reads view read (Ok x) left = read ≡ Ok (view x, left)
+Reads view read (Err fault) left = Fails read fault
 
 -- the same of a call that leaves nothing
-abbrev pub Says : {X Y : Type 0} → (X → Y) → Option Y → Result X TextFault → Type 0
-Says view read (Ok x) = read ≡ Some (view x)
-Says view read (Err fault) = ReadFails fault read
+abbrev pub Says : {X Y : Type 0} → (X → Y) → Result Y TextFault → Result X TextFault → Type 0
+Says view read (Ok x) = read ≡ Ok (view x)
+Says view read (Err fault) = Fails read fault
 
--- the number that a word spells: decimal without leading zeros, below 2 ^ 64
-abbrev pub number_of : List ℕ → Option ℕ
-number_of word = if nat_lt (digits_value 10 word) (2 ^ 64) && bytes_eq (decimal (digits_value 10 word)) word then Some (digits_value 10 word) else None
+-- ---- numbers
 
-abbrev pub decoded : List ℕ → Result (List ℕ) FromHexError → Option (List ℕ)
-decoded word (Ok bytes) = if bytes_eq (encode_lower bytes) word then Some bytes else None
-decoded word (Err e) = None
+-- one byte at least, and no zero before others
+abbrev pub is_led : List ℕ → Bool
+is_led [] = false
+is_led (b ∷ []) = true
+is_led (b ∷ c ∷ rest) = not (b == 48)
+
+-- a decimal number of any length, without leading zeros
+abbrev pub is_decimal : List ℕ → Bool
+is_decimal word = is_led word && list_all is_ascii_digit word
+
+-- the number that a word spells, below 2 ^ 64
+abbrev pub number_of : List ℕ → Result ℕ TextFault
+number_of word =
+    if is_decimal word then (if nat_lt (digits_value 10 word) (2 ^ 64) then Ok (digits_value 10 word) else Err Range) else Err Number
+
+-- ---- bytes
+
+abbrev pub decoded : List ℕ → Result (List ℕ) FromHexError → Result (List ℕ) TextFault
+decoded word (Ok bytes) = if bytes_eq (encode_lower bytes) word then Ok bytes else Err Hex
+decoded word (Err e) = Err Hex
 
 -- the bytes that a word spells: lower-case hexadecimal, `-` for none
-abbrev pub hex_of : List ℕ → Option (List ℕ)
-hex_of word = if bytes_eq word (codes "-") then Some [] else (if length word == 0 then None else decoded word (decode_of word))
+abbrev pub hex_of : List ℕ → Result (List ℕ) TextFault
+hex_of word = if bytes_eq word (codes "-") then Ok [] else (if length word == 0 then Err Hex else decoded word (decode_of word))
 
-abbrev pub word_at : List (List ℕ) → Option (List ℕ × List (List ℕ))
-word_at [] = None
-word_at (word ∷ words) = Some (word, words)
+-- ---- words
+
+abbrev pub word_at : List (List ℕ) → Result (List ℕ × List (List ℕ)) TextFault
+word_at [] = Err Word
+word_at (word ∷ words) = Ok (word, words)
 
 -- this very word
-abbrev pub keyword_at : List ℕ → List (List ℕ) → Option (Unit {0} × List (List ℕ))
+abbrev pub keyword_at : List ℕ → List (List ℕ) → Result (Unit {0} × List (List ℕ)) TextFault
 keyword_at keyword words = do
   word ← word_at words
-  if bytes_eq word.0 keyword then Some (tt, word.1) else None
+  if bytes_eq word.0 keyword then Ok (tt, word.1) else Err Word
 
 -- a number that a word spells
-abbrev pub number_at : List (List ℕ) → Option (ℕ × List (List ℕ))
+abbrev pub number_at : List (List ℕ) → Result (ℕ × List (List ℕ)) TextFault
 number_at words = do
   word ← word_at words
   number ← number_of word.0
-  Some (number, word.1)
+  Ok (number, word.1)
 
--- a number below a limit
-abbrev pub number_below : ℕ → List (List ℕ) → Option (ℕ × List (List ℕ))
-number_below limit words = do
+-- a number of a range, both ends included
+abbrev pub number_within : ℕ → ℕ → List (List ℕ) → Result (ℕ × List (List ℕ)) TextFault
+number_within least most words = do
   number ← number_at words
-  if nat_lt number.0 limit then Some number else None
+  if nat_lt number.0 least then Err Range else (if nat_lt most number.0 then Err Range else Ok number)
 
 -- the bytes that a word spells
-abbrev pub hex_at : List (List ℕ) → Option (List ℕ × List (List ℕ))
+abbrev pub hex_at : List (List ℕ) → Result (List ℕ × List (List ℕ)) TextFault
 hex_at words = do
   word ← word_at words
   bytes ← hex_of word.0
-  Some (bytes, word.1)
+  Ok (bytes, word.1)
 
 -- no word is left
-abbrev pub end_at : List (List ℕ) → Option (Unit {0})
-end_at [] = Some tt
-end_at (word ∷ words) = None
+abbrev pub end_at : List (List ℕ) → Result (Unit {0}) TextFault
+end_at [] = Ok tt
+end_at (word ∷ words) = Err Left
 
--- a fault of the hexadecimal text, or want of memory
+-- what a fault of hexadecimal text is called, or want of memory
 abbrev pub text_fault : FromHexError → TextFault
 text_fault OutOfMemory = Memory
-text_fault e = Unread
+text_fault e = Hex

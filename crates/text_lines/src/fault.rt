@@ -5,8 +5,16 @@ use std::alloc::{AllocError, AllocFailed};
 /// Why a word was not read.
 #[derive(Clone, Copy, Debug, PartialEq, Eq)]
 pub enum TextFault {
-    /// The text is not what was asked for.
-    Unread,
+    /// A word is missing, or is another than what is due.
+    Word,
+    /// The word is no decimal number without a sign or leading zeros.
+    Number,
+    /// The number is out of the range that is asked for.
+    Range,
+    /// The word is no lower-case hexadecimal text, and not `-`.
+    Hex,
+    /// Words are left over.
+    Left,
     /// Want of memory.
     Memory,
 }

@@ -8,9 +8,9 @@ mod words;
 mod writing;
 
 pub use fault::TextFault;
-pub use find::{find_byte, split_line};
+pub use find::{FirstLine, find_byte, split_line};
 pub use words::Words;
-pub use writing::{put_hex, put_number, put_word};
+pub use writing::{put_bytes, put_hex, put_number, put_word};
 
 #[cfg(test)]
 mod tests;

@@ -1,9 +1,11 @@
 //! The words of a line, read from the left.
 
-ghost use Rattle.std.specs.Prelude.{◌≡◌, ◌∷◌};
+ghost use Rattle.std.specs.Prelude.{◌≡◌, ◌≤◌, ◌∷◌, IfOk};
 ghost use Rattle.std.specs.Option.{option_copied};
+ghost use Rattle.std.specs.List.{list_all};
+ghost use Rattle.std.specs.Char.{is_ascii_digit};
 ghost use Rattle.text_lines.specs.Split.{words_of, words_left};
-ghost use Rattle.text_lines.specs.Reading.{Reads, Says, word_at, keyword_at, number_at, number_below, hex_at, end_at, number_of, hex_of, text_fault};
+ghost use Rattle.text_lines.specs.Reading.{Gives, Reads, Says, word_at, keyword_at, number_at, number_within, hex_at, end_at, is_led, is_decimal, number_of, hex_of, text_fault};
 
 use crate::{TextFault, find_byte};
 use hex::FromHexError;
@@ -11,7 +13,8 @@ use mrp_types::Octets;
 use std::alloc::Global;
 use std::marker::Model;
 
-/// The words that are left of a line, and contracts see the list of them.
+/// The words that are left of a line, and contracts see the list of them. After a fault nothing is said of what is
+/// left.
 #[derive(Drop)]
 pub struct Words<'a> {
     rest: Option<&'a [u8]>,
@@ -36,59 +39,66 @@ impl<'a> Words<'a> {
         Words { rest: Some(line) }
     }
 
-    /// The next word.
+    /// The next word. `Word` where none is left.
     pub fn word(&mut self) -> Result<&'a [u8], TextFault>
-        ensures { Reads (λ x. x.now) (word_at self.old) result self.new }
+        ensures { Gives (λ x. x.now) (word_at self.old) result self.new }
     {
         let Some(rest) = self.rest else {
-            return Err(TextFault::Unread);
+            return Err(TextFault::Word);
         };
         let (word, left) = split_word(rest);
         self.rest = left;
         Ok(word)
     }
 
-    /// The next word, which has to be this one.
+    /// The next word, which has to be this one. `Word` where it is another, or none is left.
     pub fn keyword(&mut self, keyword: &[u8]) -> Result<(), TextFault>
-        ensures { Reads (λ x. x) (keyword_at keyword.now self.old) result self.new }
+        ensures { Gives (λ x. x) (keyword_at keyword.now self.old) result self.new }
     {
         if self.word()? != keyword {
-            return Err(TextFault::Unread);
+            return Err(TextFault::Word);
         }
         Ok(())
     }
 
-    /// The next word as a number: decimal without leading zeros, below 2^64.
-    pub fn number(&mut self, alloc: Global) -> Result<u64, TextFault>
-        ensures { Reads (λ n. n) (number_at self.old) result self.new }
+    /// The next word as a number: decimal without leading zeros, below 2^64. `Word` where none is left, `Number`
+    /// where it is no such decimal, `Range` where it is one of 2^64 or more.
+    pub fn number(&mut self) -> Result<u64, TextFault>
+        ensures { Gives (λ n. n) (number_at self.old) result self.new }
     {
-        number_of_word(alloc, self.word()?)
+        number_of_word(self.word()?)
     }
 
-    /// The next word as a number below `limit`.
-    pub fn number_below(&mut self, alloc: Global, limit: u64) -> Result<u64, TextFault>
-        ensures { Reads (λ n. n) (number_below limit self.old) result self.new }
+    /// The next word as a number of this range, both ends included; a number out of it is `Range`, and the other
+    /// faults are those of `number`.
+    pub fn number_within(&mut self, least: u64, most: u64) -> Result<u64, TextFault>
+        ensures exact { Gives (λ n. n) (number_within least most self.old) result self.new }
+        ensures range { IfOk result (λ n. n ≤ most) }
     {
-        let number = self.number(alloc)?;
-        if number >= limit {
-            return Err(TextFault::Unread);
+        let number = self.number()?;
+        if number < least {
+            return Err(TextFault::Range);
+        }
+        if number > most {
+            return Err(TextFault::Range);
         }
         Ok(number)
     }
 
-    /// The next word as bytes: lower-case hexadecimal, `-` for none.
+    /// The next word as bytes: lower-case hexadecimal, `-` for none. `Word` where none is left, `Hex` where it is
+    /// anything else, the empty word too.
     pub fn hex(&mut self, alloc: Global) -> Result<Octets, TextFault>
         ensures { Reads (λ x. x) (hex_at self.old) result self.new }
     {
         bytes_of_word(alloc, self.word()?)
     }
 
-    /// Asks that no word is left.
+    /// Asks that no word is left; else `Left`.
     pub fn end(&self) -> Result<(), TextFault>
-        ensures { Says (λ x. x) (end_at self.now) result }
+        ensures { result ≡ end_at self.now }
     {
         match self.rest {
-            Some(_) => Err(TextFault::Unread),
+            Some(_) => Err(TextFault::Left),
             None => Ok(()),
         }
     }
@@ -104,19 +114,47 @@ fn split_word(rest: &[u8]) -> (&[u8], Option<&[u8]>)
     (&rest[..end], Some(&rest[end + 1..]))
 }
 
-fn number_of_word(alloc: Global, word: &[u8]) -> Result<u64, TextFault>
-    ensures { Says (λ n. n) (number_of word.now) result }
+// One byte at least, and no zero before others.
+fn leads_well(word: &[u8]) -> bool
+    ensures { result ≡ is_led word.now }
+{
+    match word {
+        [] => false,
+        [_] => true,
+        [first, ..] => *first != b'0',
+    }
+}
+
+fn are_digits(word: &[u8]) -> bool
+    ensures { result ≡ list_all is_ascii_digit word.now }
+{
+    for byte in word {
+        if !byte.is_ascii_digit() {
+            return false;
+        }
+    }
+    true
+}
+
+fn has_decimal_form(word: &[u8]) -> bool
+    ensures { result ≡ is_decimal word.now }
+{
+    leads_well(word) && are_digits(word)
+}
+
+fn number_of_word(word: &[u8]) -> Result<u64, TextFault>
+    ensures { result ≡ number_of word.now }
 {
     let Ok(text) = str::from_utf8(word) else {
-        return Err(TextFault::Unread);
+        return Err(TextFault::Number);
     };
-    let Ok(number) = text.parse::<u64>() else {
-        return Err(TextFault::Unread);
-    };
-    if number.to_string(alloc)?.as_bytes() != word {
-        return Err(TextFault::Unread);
+    if !has_decimal_form(word) {
+        return Err(TextFault::Number);
     }
-    Ok(number)
+    match text.parse::<u64>() {
+        Ok(number) => Ok(number),
+        Err(_) => Err(TextFault::Range),
+    }
 }
 
 fn bytes_of_word(alloc: Global, word: &[u8]) -> Result<Octets, TextFault>
@@ -126,14 +164,14 @@ fn bytes_of_word(alloc: Global, word: &[u8]) -> Result<Octets, TextFault>
         return Ok(Octets::new(alloc));
     }
     if word.is_empty() {
-        return Err(TextFault::Unread);
+        return Err(TextFault::Hex);
     }
     let bytes = match hex::decode(alloc, word) {
         Ok(bytes) => bytes,
         Err(fault) => return Err(fault_of(fault)),
     };
     if hex::encode(alloc, bytes.as_slice())?.as_bytes() != word {
-        return Err(TextFault::Unread);
+        return Err(TextFault::Hex);
     }
     Ok(Octets::from_vec(bytes))
 }
@@ -143,6 +181,6 @@ fn fault_of(fault: FromHexError) -> TextFault
 {
     match fault {
         FromHexError::OutOfMemory => TextFault::Memory,
-        _ => TextFault::Unread,
+        _ => TextFault::Hex,
     }
 }

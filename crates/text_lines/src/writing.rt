@@ -3,7 +3,7 @@
 ghost use Rattle.std.specs.Prelude.{◌≡◌, ◌++◌, OnOk};
 ghost use Rattle.std.specs.Fmt.{decimal};
 ghost use Rattle.hex.specs.Hex.{encode_lower};
-ghost use Rattle.text_lines.specs.Text.{spaced};
+ghost use Rattle.text_lines.specs.Text.{spaced, hex_text};
 
 use mrp_types::{Memory, Octets};
 use std::alloc::Global;
@@ -28,4 +28,14 @@ pub fn put_hex(alloc: Global, out: &mut Octets, bytes: &[u8]) -> Result<(), Memo
     ensures { OnOk result (out.new ≡ out.old ++ spaced (encode_lower bytes.now)) }
 {
     put_word(out, hex::encode(alloc, bytes)?.as_bytes())
+}
+
+/// Adds a space and bytes as `Words::hex` reads them: lower-case hexadecimal, `-` for none.
+pub fn put_bytes(alloc: Global, out: &mut Octets, bytes: &[u8]) -> Result<(), Memory>
+    ensures { OnOk result (out.new ≡ out.old ++ spaced (hex_text bytes.now)) }
+{
+    if bytes.is_empty() {
+        return put_word(out, b"-");
+    }
+    put_hex(alloc, out, bytes)
 }

@@ -1,11 +1,13 @@
 //! Lines as text.
 
-ghost use Rattle.std.specs.Prelude.{◌≡◌, ◌++◌, IfOk, OnOk};
-ghost use Rattle.transcript.specs.Spelling.{line_bytes, learn_head, value_text};
+ghost use Rattle.std.specs.Prelude.{◌≡◌, ◌++◌, ◌∷◌, IfOk, OnOk};
+ghost use Rattle.std.specs.Fmt.{decimal};
+ghost use Rattle.transcript.specs.Spelling.{line_bytes, learn_head, value_text, party_text, shown_words};
 ghost use Rattle.text_lines.specs.Text.{spaced};
+ghost use Rattle.std.specs.List.{flat_map};
 
-use crate::Line;
-use mrp_types::{Inst, Memory, NodeId, Octets, RingId, Value};
+use crate::{Line, ShownFrame};
+use mrp_types::{Inst, Memory, NodeId, Octets, Party, RingId, Value};
 use std::alloc::Global;
 use text_lines::{put_hex, put_number, put_word};
 
@@ -39,6 +41,11 @@ pub fn put_line(alloc: Global, out: &mut Octets, line: &Line) -> Result<(), Memo
             put_number(alloc, out, u64::from(ring.0))?;
             put_number(alloc, out, *inst)?;
         }
+        Line::Frame { number, shown } => {
+            out.extend(b"frame")?;
+            put_number(alloc, out, *number)?;
+            put_shown(alloc, out, shown)?;
+        }
         Line::End { events } => {
             out.extend(b"end")?;
             put_number(alloc, out, *events)?;
@@ -71,4 +78,35 @@ fn put_value(alloc: Global, out: &mut Octets, value: &Value) -> Result<(), Memor
         Value::Skip => put_word(out, b"skip"),
         Value::Batch(batch) => put_hex(alloc, out, batch.bytes()),
     }
+}
+
+fn put_shown(alloc: Global, out: &mut Octets, shown: &Option<ShownFrame>) -> Result<(), Memory>
+    ensures { OnOk result (out.new ≡ out.old ++ flat_map spaced (shown_words shown.now)) }
+{
+    match shown {
+        None => put_word(out, b"none"),
+        Some(shown) => {
+            put_party(alloc, out, shown.from)?;
+            put_party(alloc, out, shown.to)?;
+            put_hex(alloc, out, shown.bytes.bytes())
+        }
+    }
+}
+
+fn put_party(alloc: Global, out: &mut Octets, party: Party) -> Result<(), Memory>
+    ensures { OnOk result (out.new ≡ out.old ++ spaced (party_text party)) }
+{
+    match party {
+        Party::Node(node) => put_name(alloc, out, b'n', node.0),
+        Party::Client(client) => put_name(alloc, out, b'c', client.0),
+    }
+}
+
+// Adds a space, a letter and a number behind it.
+fn put_name(alloc: Global, out: &mut Octets, letter: u8, number: u8) -> Result<(), Memory>
+    ensures { OnOk result (out.new ≡ out.old ++ spaced (letter ∷ decimal number)) }
+{
+    out.push(b' ')?;
+    out.push(letter)?;
+    out.extend(number.to_string(alloc)?.as_bytes())
 }

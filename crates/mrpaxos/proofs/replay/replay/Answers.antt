@@ -4,9 +4,9 @@ use Rattle.mrpaxos.proofs.replay.replay.Goals as goal
 
 pub loop-event-init : goal.loop-event-init
 loop-event-init g c = record {
-  written = begins _ c.args.schedule.now _ _ c.in_ok-world.ensures c.items-event-items.ensures;
+  written = begins _ c.args.ring c.args.schedule.now _ _ c.in_ok-world.ensures c.items-event-items.ensures;
   kept = grind arith;
-  valid = rw c.items-event-items.ensures c.requires;
+  valid = rw c.items-event-items.ensures c.requires.events;
 }
 
 pub returns-in_err-replay_event-clause-written : goal.returns-in_err-replay_event-clause-written
@@ -14,7 +14,7 @@ returns-in_err-replay_event-clause-written g c =
     let items = c.items-event-items.result.now in
     let i = c.loop-event.event-index in
     let is = event_at items i c.event-item.result c.loop-event-test.true c.event-item.is in
-    refused _ _ _ c.args.schedule.now (drop i items) (drop (i + 1) items) c.loop-event.world c.event-item.result c.in_err-replay_event.field-0.0
+    refused _ _ _ c.args.ring c.args.schedule.now (drop i items) (drop (i + 1) items) c.loop-event.world c.event-item.result c.in_err-replay_event.field-0.0
     c.from_residual-in_err-replay_event.result c.from_residual-in_err-replay_event.ensures.1 is c.loop-event.invariant.written c.in_err-replay_event.ensures.written
 
 pub loop-event-preserved : goal.loop-event-preserved
@@ -23,7 +23,7 @@ loop-event-preserved g c =
     let i = c.loop-event.event-index in
     let is = event_at items i c.event-item.result c.loop-event-test.true c.event-item.is in
     record {
-      written = one_more _ _ _ c.args.schedule.now (drop i items) (drop (i + 1) items) c.loop-event.world c.replay_event.new.world c.event-item.result
+      written = one_more _ _ _ c.args.ring c.args.schedule.now (drop i items) (drop (i + 1) items) c.loop-event.world c.replay_event.new.world c.event-item.result
           is c.in_ok-replay_event.ensures.world c.loop-event.invariant.written c.in_ok-replay_event.ensures.written;
       kept = c.in_ok-replay_event.ensures.fault ∙ c.loop-event.invariant.kept;
       valid = (valid_after c.event-item.result (drop i items) (drop (i + 1) items) is c.loop-event.invariant.valid).1;
@@ -33,5 +33,5 @@ pub returns-clause-written : goal.returns-clause-written
 returns-clause-written g c =
     let items = c.items-event-items.result.now in
     let i = c.loop-event.event-index in
-    ends _ _ _ c.args.schedule.now (drop i items) c.loop-event.world (length c.items.result.now) c.write_lines.result
+    ends _ _ _ c.args.ring c.args.schedule.now (drop i items) c.loop-event.world (length c.items.result.now) c.write_lines.result
     (none_at items i c.loop-event-test.false) (ap length c.items.ensures) c.loop-event.invariant.written (rw c.from_ref.ensures.value at c.write_lines.ensures.written)

@@ -1,6 +1,6 @@
 use Rattle.std.proofs.Common.{inr}
 use Rattle.outside.proofs.WritingLemmas.{appended}
-use Rattle.mrpaxos.proofs.Worlds.{trace_rules}
+use Rattle.world.proofs.Worlds.{trace_rules}
 use Rattle.mrpaxos.proofs.top.replay_bytes.Goals as goal
 
 pub returns-in-Ok-replay : goal.returns-in-Ok-replay
@@ -8,7 +8,7 @@ returns-in-Ok-replay g c = (
   c.in-Ok.schedule,
   record {
     schedule = c.in-Ok.ensures.found;
-    rules = trace_rules c.in-Ok.schedule;
+    rules = trace_rules c.args.ring c.in-Ok.schedule;
     text = appended _ _ _ c.in-Ok-replay.ensures.written;
     faults = c.in-Ok-replay.ensures.fault;
   },
@@ -22,7 +22,7 @@ returns-in-Err-Sink g c =
       written.0,
       record {
         schedule = c.in-Ok.ensures.found;
-        rules = trace_rules c.in-Ok.schedule;
+        rules = trace_rules c.args.ring c.in-Ok.schedule;
         front = written.1.taken;
       },
       says.fault,
@@ -30,14 +30,14 @@ returns-in-Err-Sink g c =
 
 pub returns : goal.returns
 returns g c =
-    let says = rw c.in-Err-Memory-replay.field-0-is at c.in-Err-Memory-replay.ensures in
+    let says = rw c.in-Err-Memory.field-0-is at c.in-Err-Memory.ensures in
     let written = says.written in
     inr (
       c.in-Ok.schedule,
       written.0,
       record {
         schedule = c.in-Ok.ensures.found;
-        rules = trace_rules c.in-Ok.schedule;
+        rules = trace_rules c.args.ring c.in-Ok.schedule;
         front = written.1.taken;
       },
       says.fault,

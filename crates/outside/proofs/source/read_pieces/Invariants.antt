@@ -1,4 +1,4 @@
-use Rattle.std.proofs.Common.{◌≡◌, ◌≤◌, ◌+◌, length}
+use Rattle.std.proofs.Common.{◌≡◌, ◌≤◌, ◌<◌, ◌+◌, length}
 use Rattle.std.specs.Io.KnownBytes.{Consumes}
 use Rattle.outside.proofs.source.read_pieces.Given as goal
 
@@ -10,7 +10,8 @@ invariant-loop-turn g l =
     record {
       came : Consumes (left l.fn.source) (left l.source) l.bytes.items;
       turns : l._turn ≤ length l.bytes.items;
-      within : length l.bytes.items ≤ l.limit;
+      within : length l.bytes.items ≤ l.most;
+      room : l._turn < l.most → length l.bytes.items < l.most;
       made : reads l.source ≤ reads l.fn.source + length l.bytes.items;
       kept : g.I.Source.faults l.source ≡ g.I.Source.faults l.fn.source;
     }

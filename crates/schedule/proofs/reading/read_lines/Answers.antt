@@ -1,22 +1,40 @@
-use Rattle.std.proofs.Common.{arith, sym, ◌≡◌, ◌∙◌, ◌<◌, length}
+use Rattle.std.proofs.Common.{arith, sym, inr, ◌≡◌, ◌<◌, length}
 use Rattle.std.proofs.lemmas.Grind.{common_steps}
-use Rattle.schedule.proofs.Lines.{cut_short, refused, moved_on}
+use Rattle.schedule.proofs.Lines.{all_read, turn, moved_on, refused, past}
 use Rattle.schedule.proofs.reading.read_lines.Goals as goal
 
 pub returns-in_default : goal.returns-in_default
 returns-in_default c =
-    let rest = c.loop-turn.rest.now in
-    let some : 0 < length rest = grind (arith, common_steps, c.if-is_empty.ensures) in
-    cut_short c.loop-turn.events.items c.args.bytes.now rest c.loop-turn.invariant.all some (sym c.in_default.ensures)
+    all_read c.args.deployment.now c.loop-line.events.items c.args.bytes.now c.loop-line.rest.now c.loop-line.invariant.all (sym c.in_default.ensures) c.from_vec.result c.from_vec.ensures
 
-pub returns-in_err-read_event : goal.returns-in_err-read_event
-returns-in_err-read_event c =
-    refused c.in_err-read_event.field-0.0 c.from_residual.result c.loop-turn.events.items c.args.bytes.now c.loop-turn.rest.now c.in-Some.line.now c.in-Some.after.now
-    c.from_residual.ensures.1 c.loop-turn.invariant.all (sym c.in-Some.ensures) c.in_err-read_event.ensures
+pub overflow_sub-end : goal.overflow_sub-end
+overflow_sub-end c =
+    let taken = turn c.args.deployment.now c.loop-line.events.items c.args.bytes.now c.loop-line.rest.now c.in-Some.first.text.now c.in-Some.first.after.now c.in-Some.first.ended
+    c.loop-line.invariant.all c.loop-line.invariant.inside (sym c.in-Some.ensures) in
+    taken.inside
 
-pub loop-turn-preserved : goal.loop-turn-preserved
-loop-turn-preserved c = record {
-  all = moved_on c.in_ok-read_event.field-0 c.loop-turn.events.items c.push.new.self.items c.args.bytes.now c.loop-turn.rest.now c.in-Some.line.now c.in-Some.after.now
-      c.loop-turn.invariant.all (sym c.in-Some.ensures) c.in_ok-read_event.ensures c.in_ok-push.ensures.items;
-  count = grind (arith, common_steps, c.in_ok-push.ensures.items, c.loop-turn.invariant.count);
-}
+pub returns-in_err-event : goal.returns-in_err-event
+returns-in_err-event c =
+    let taken = turn c.args.deployment.now c.loop-line.events.items c.args.bytes.now c.loop-line.rest.now c.in-Some.first.text.now c.in-Some.first.after.now c.in-Some.first.ended
+    c.loop-line.invariant.all c.loop-line.invariant.inside (sym c.in-Some.ensures) in
+    refused c.args.deployment.now c.loop-line.events.items c.in_err-event.field-0.0 c.from_residual.result c.args.bytes.now c.in-Some.first.after.now _ c.loop-line.line
+    taken c.loop-line.invariant.count c.loop-line-test.true c.in_err-event.ensures c.from_residual.ensures.1
+
+pub loop-line-preserved : goal.loop-line-preserved
+loop-line-preserved c =
+    let taken = turn c.args.deployment.now c.loop-line.events.items c.args.bytes.now c.loop-line.rest.now c.in-Some.first.text.now c.in-Some.first.after.now c.in-Some.first.ended
+    c.loop-line.invariant.all c.loop-line.invariant.inside (sym c.in-Some.ensures) in
+    record {
+      all = moved_on c.args.deployment.now c.loop-line.events.items c.push.new.self.items c.in_ok-event.event c.args.bytes.now c.in-Some.first.after.now _ c.loop-line.line
+          taken c.loop-line.invariant.count c.loop-line-test.true c.in_ok-event.ensures c.in-Ok.ensures.items;
+      inside = taken.inside;
+      count = grind (arith, common_steps, c.in-Ok.ensures.items, c.loop-line.invariant.count);
+      few = grind (arith, common_steps, c.in-Ok.ensures.items, c.loop-line.invariant.count, c.loop-line-test.true);
+    }
+
+pub returns : goal.returns
+returns c =
+    let rest = c.loop-line.rest.now in
+    let some : 0 < length rest = grind (arith, common_steps, c.if-is_empty.ensures, c.if-is_empty.false) in
+    let full : length c.loop-line.events.items ≡ 1048576 = omega (arith, c.loop-line.invariant.count, c.loop-line.invariant.few, c.loop-line-test.false) in
+    inr (past c.args.deployment.now c.loop-line.events.items c.args.bytes.now rest c.loop-line.invariant.all some full)

@@ -1,0 +1,5 @@
+pub mod Ranges
+pub mod Grammar
+pub mod Spelling
+pub mod Valid
+pub mod Saying

@@ -1,0 +1,10 @@
+use Rattle.std.proofs.Common.{◌≡◌, drop, map}
+use Rattle.toml.specs.View.{table_view}
+use Rattle.mrp_config.specs.Walk.{nodes_of}
+use Rattle.mrp_config.proofs.Chains.{before}
+use Rattle.mrp_config.proofs.walk.nodes.each_node.Given as goal
+
+-- what was read so far and what is still read are all of it
+abbrev pub invariant-loop-table : goal.invariant-loop-table
+invariant-loop-table l =
+    before l.nodes.items (nodes_of l.least (map (λ t. table_view t.now) (drop l.table-index l.tables))) ≡ nodes_of 0 (map (λ t. table_view t.now) l.tables)

@@ -1,0 +1,4 @@
+mod accepted;
+mod refused;
+mod routes;
+mod texts;

@@ -1,0 +1,131 @@
+//! The tables of nodes, clients and rings.
+
+ghost use Rattle.std.specs.Prelude.{◌≡◌, map};
+ghost use Rattle.toml.specs.View.{table_view};
+ghost use Rattle.mrp_config.specs.Walk.{Says, node_of, nodes_of, top_nodes, client_of, clients_of, top_clients, acceptors_of, ring_of, rings_of, top_rings};
+
+use super::address::read_address;
+use super::names::judge_names;
+use super::numbers::read_id;
+use super::seats::read_seats;
+use super::tables::read_tables;
+use super::values::value_at;
+use crate::{ClientTable, ConfigFault, NodeTable, RingTable};
+use mrp_types::{ClientId, NodeId, RingId, Seats};
+use std::alloc::Global;
+use toml::Table;
+
+#[tactic(auto, unfolding(crate::specs::Walk::node_of))]
+fn read_node(alloc: Global, least: u64, table: &Table) -> Result<NodeTable, ConfigFault>
+    ensures { Says (λ n. n) (node_of least (table_view table.now)) result }
+{
+    let id = read_id(alloc, "node.id", 31, least, value_at(table, "id"))?;
+    let address = read_address(alloc, "node.address", value_at(table, "address"))?;
+    judge_names(alloc, "node.", &["id", "address"], table)?;
+    Ok(NodeTable {
+        id: NodeId(id),
+        address,
+    })
+}
+
+fn each_node(alloc: Global, tables: &[&Table]) -> Result<Vec<NodeTable>, ConfigFault>
+    ensures { Says (λ v. v.items) (nodes_of 0 (map (λ t. table_view t.now) tables.now)) result }
+{
+    let mut nodes = Vec::new(alloc);
+    let mut least = 0;
+    for table in tables {
+        let node = read_node(alloc, least, table)?;
+        least = u64::from(node.id.0) + 1;
+        nodes.push(node)?;
+    }
+    Ok(nodes)
+}
+
+/// The nodes of the top table.
+pub fn read_nodes(alloc: Global, table: &Table) -> Result<Vec<NodeTable>, ConfigFault>
+    ensures { Says (λ v. v.items) (top_nodes (table_view table.now)) result }
+{
+    let tables = read_tables(alloc, "node", 1, 32, value_at(table, "node"))?;
+    each_node(alloc, &tables)
+}
+
+#[tactic(auto, unfolding(crate::specs::Walk::client_of))]
+fn read_client(alloc: Global, least: u64, table: &Table) -> Result<ClientTable, ConfigFault>
+    ensures { Says (λ c. c) (client_of least (table_view table.now)) result }
+{
+    let id = read_id(alloc, "client.id", 255, least, value_at(table, "id"))?;
+    let address = read_address(alloc, "client.address", value_at(table, "address"))?;
+    judge_names(alloc, "client.", &["id", "address"], table)?;
+    Ok(ClientTable {
+        id: ClientId(id),
+        address,
+    })
+}
+
+fn each_client(alloc: Global, tables: &[&Table]) -> Result<Vec<ClientTable>, ConfigFault>
+    ensures { Says (λ v. v.items) (clients_of 0 (map (λ t. table_view t.now) tables.now)) result }
+{
+    let mut clients = Vec::new(alloc);
+    let mut least = 0;
+    for table in tables {
+        let client = read_client(alloc, least, table)?;
+        least = u64::from(client.id.0) + 1;
+        clients.push(client)?;
+    }
+    Ok(clients)
+}
+
+/// The clients of the top table, where there may be none.
+pub fn read_clients(alloc: Global, table: &Table) -> Result<Vec<ClientTable>, ConfigFault>
+    ensures { Says (λ v. v.items) (top_clients (table_view table.now)) result }
+{
+    let tables = read_tables(alloc, "client", 0, 256, value_at(table, "client"))?;
+    each_client(alloc, &tables)
+}
+
+#[tactic(auto, unfolding(crate::specs::Walk::acceptors_of))]
+fn read_acceptors(alloc: Global, nodes: &[u8], table: &Table) -> Result<Seats, ConfigFault>
+    ensures { Says (λ s. s) (acceptors_of nodes.now (table_view table.now)) result }
+{
+    let found = value_at(table, "acceptors");
+    read_seats(alloc, "ring.acceptors", &[], nodes, found)
+}
+
+#[tactic(auto, unfolding(crate::specs::Walk::ring_of))]
+fn read_ring(
+    alloc: Global,
+    nodes: &[u8],
+    least: u64,
+    table: &Table,
+) -> Result<RingTable, ConfigFault>
+    ensures { Says (λ r. r) (ring_of nodes.now least (table_view table.now)) result }
+{
+    let id = read_id(alloc, "ring.id", 15, least, value_at(table, "id"))?;
+    let acceptors = read_acceptors(alloc, nodes, table)?;
+    judge_names(alloc, "ring.", &["id", "acceptors"], table)?;
+    Ok(RingTable {
+        id: RingId(id),
+        acceptors,
+    })
+}
+
+fn each_ring(alloc: Global, nodes: &[u8], tables: &[&Table]) -> Result<Vec<RingTable>, ConfigFault>
+    ensures { Says (λ v. v.items) (rings_of nodes.now 0 (map (λ t. table_view t.now) tables.now)) result }
+{
+    let mut rings = Vec::new(alloc);
+    let mut least = 0;
+    for table in tables {
+        let ring = read_ring(alloc, nodes, least, table)?;
+        least = u64::from(ring.id.0) + 1;
+        rings.push(ring)?;
+    }
+    Ok(rings)
+}
+
+/// The rings of the top table; `nodes` are the ids of the nodes.
+pub fn read_rings(alloc: Global, nodes: &[u8], table: &Table) -> Result<Vec<RingTable>, ConfigFault>
+    ensures { Says (λ v. v.items) (top_rings nodes.now (table_view table.now)) result }
+{
+    let tables = read_tables(alloc, "ring", 1, 16, value_at(table, "ring"))?;
+    each_ring(alloc, nodes, &tables)
+}

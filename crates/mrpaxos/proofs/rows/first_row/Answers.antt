@@ -1,8 +1,0 @@
-use Rattle.std.proofs.Common.{refl}
-use Rattle.command_codec.specs.Fields.{u16_bytes, u64_bytes}
-use Rattle.mrpaxos.specs.System.{trace}
-use Rattle.mrpaxos.proofs.rows.first_row.Goals as goal
-
-pub returns : goal.returns
-unfolding trace u16_bytes u64_bytes lib.Count.ones
-returns c = refl

@@ -1,0 +1,8 @@
+use Rattle.std.proofs.Common.{◌≡◌, drop}
+use Rattle.std.specs.List.{list_all}
+use Rattle.std.specs.Char.{is_ascii_digit}
+use Rattle.text_lines.proofs.words.are_digits.Given as goal
+
+-- what was done and what is left are the whole
+abbrev pub invariant-loop-byte : goal.invariant-loop-byte
+invariant-loop-byte l = list_all is_ascii_digit (drop l.byte-index l.word) ≡ list_all is_ascii_digit l.word

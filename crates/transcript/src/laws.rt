@@ -1,0 +1,22 @@
+//! The laws of lines and their text, which name no code.
+
+ghost use Rattle.std.specs.Prelude.{◌≡◌, List, ℕ, Some};
+ghost use Rattle.transcript.specs.declared.line.Line.{Line};
+ghost use Rattle.transcript.specs.Spelling.{line_bytes, IsLine};
+ghost use Rattle.transcript.specs.Reading.{line_of};
+
+/// A line that may be is read as it is spelled.
+pub fn lines_are_read()
+    ensures { (line : Line) → IsLine line → line_of (line_bytes line) ≡ Some line }
+{}
+
+/// What is read of bytes is a line that may be, and the bytes are its spelling.
+pub fn what_is_read_is_spelled_so()
+    ensures spelled { (bytes : List ℕ) (line : Line) → line_of bytes ≡ Some line → bytes ≡ line_bytes line }
+    ensures may_be { (bytes : List ℕ) (line : Line) → line_of bytes ≡ Some line → IsLine line }
+{}
+
+/// A line has one spelling, and no other line that may be has it.
+pub fn one_spelling_a_line()
+    ensures { (line other : Line) → IsLine line → IsLine other → line_bytes line ≡ line_bytes other → line ≡ other }
+{}

@@ -1,0 +1,9 @@
+pub mod Rings
+pub mod Seats
+pub mod Frames
+pub mod Deliveries
+pub mod Exact
+pub mod Values
+pub mod Sound
+pub mod Worlds
+pub mod Events
