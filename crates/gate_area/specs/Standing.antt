@@ -118,6 +118,7 @@ Answers expected result = MatchResult result (λ s. expected ≡ Ok s) (λ fault
 pub record SurveyCauses (before now : ℕ) (result : Result Standing SurveyFault) : Type 0 where
   pub later : before ≤ now
   pub disk : IsErrOf result Disk → Rose before now
+  pub memory : IsErrOf result NoMemory → now ≡ before
   pub damaged : (area : Area) (at : ℕ) → IsErrOf result (Damaged area at) → now ≡ before
   pub kept : OnOk result (now ≡ before)
 

@@ -1,0 +1,10 @@
+pub mod Spelling
+pub mod Appends
+pub mod Fronts
+pub mod Bytes
+pub mod Pages
+pub mod Moves
+pub mod Renewals
+pub mod Phases
+pub mod Answering
+pub mod Opens

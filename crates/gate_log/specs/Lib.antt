@@ -1,0 +1,5 @@
+pub mod Journal
+pub mod Moments
+pub mod Records
+pub mod Rows
+pub mod Walking

@@ -1,0 +1,18 @@
+// A log of records in a pair of areas: each operation leaves the records before or after, at each moment.
+#![tactic(auto)]
+
+mod body;
+mod fault;
+pub mod laws;
+mod log;
+mod reading;
+mod renewing;
+pub mod rows;
+mod walking;
+
+pub use body::Body;
+pub use fault::LogFault;
+pub use log::GateLog;
+
+#[cfg(test)]
+mod tests;

@@ -1,0 +1,5 @@
+pub mod RecordLaws
+pub mod Recording
+pub mod Openings
+pub mod Writing
+pub mod Replacing

@@ -1,0 +1,30 @@
+use Rattle.std.proofs.Common.{◌≡◌, OnOk, inl, ℕ, ◌+◌, ◌<◌, List, [], ◌∷◌, length, IfOk, refl, subst}
+use Rattle.disk_model.specs.Calls.{Makes, reads}
+use Rattle.gate_log.specs.Moments.{OldOrNew}
+use Rattle.gate_log.specs.Journal.{Holds, compact_calls}
+use Rattle.gate_log.proofs.Moves.{records_are}
+use Rattle.gate_log.proofs.Phases.{stays_leaves}
+use Rattle.vote_journal.proofs.Writing.{body_is}
+use Rattle.vote_journal.proofs.compacting.replace_records.Goals as goal
+
+pub returns-in_err-push-clause-moments : goal.returns-in_err-push-clause-moments
+returns-in_err-push-clause-moments g c t records tells holds =
+    stays_leaves t (g.D.Disk.told c.args.disk.now) (OldOrNew records (c.args.bytes.now ∷ []) (reads t)) tells.told (c.requires.settled t tells) (record {
+      checks = record { check2 = refl; check3 = refl };
+      records = inl (records_are (reads t) c.args.log.area c.args.log.generation records holds.standing holds.content);
+    })
+
+pub returns-clause-full : goal.returns-clause-full
+returns-clause-full g c len is =
+    let same = body_is c.push.new.self c.new-body.result c.args.bytes.now c.in_ok-push.ensures.ok c.new-body.ensures in
+    subst (λ (b : List ℕ). (len ≡ 22 + length b) × (c.args.log.limit < len)) same ((c.compact.ensures.full len).0 is)
+
+pub returns-clause-holds : goal.returns-clause-holds
+returns-clause-holds g c t u records tells now_tells holds =
+    let same = body_is c.push.new.self c.new-body.result c.args.bytes.now c.in_ok-push.ensures.ok c.new-body.ensures in
+    subst (λ (b : List ℕ). IfOk c.compact.result (λ next. Holds next (b ∷ []) (reads u))) same (c.compact.ensures.holds t u records tells now_tells holds)
+
+pub returns-clause-calls : goal.returns-clause-calls
+returns-clause-calls g c =
+    let same = body_is c.push.new.self c.new-body.result c.args.bytes.now c.in_ok-push.ensures.ok c.new-body.ensures in
+    subst (λ (b : List ℕ). OnOk c.compact.result (Makes (g.D.Disk.honest c.args.disk.now) (g.D.Disk.told c.args.disk.now) (g.D.Disk.told c.compact.new.disk) (compact_calls c.args.log b))) same c.compact.ensures.calls

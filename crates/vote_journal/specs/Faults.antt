@@ -1,0 +1,47 @@
+-- Why an operation on a journal is refused, by why one on its log is.
+use Rattle.std.specs.Prelude.{◌≡◌, ◌⊎◌, ◌≤◌, ℕ, IsErrOf, OnOk, Result, Ok, Err}
+use Rattle.disk_model.specs.Causes.{Rose}
+use Rattle.command_codec.specs.declared.fault.CodecFault.{CodecFault}
+use Rattle.command_codec.specs.declared.fault.CodecFault.TheVariants as fields
+use Rattle.gate_log.specs.declared.fault.LogFault.{LogFault}
+use Rattle.gate_log.specs.declared.fault.LogFault.TheVariants as logs
+use Rattle.vote_journal.specs.declared.fault.OpenFault.{OpenFault}
+use Rattle.vote_journal.specs.declared.fault.OpenFault.TheVariants as opens
+use Rattle.vote_journal.specs.declared.fault.JournalFault.{JournalFault}
+use Rattle.vote_journal.specs.declared.fault.JournalFault.TheVariants as journals
+
+abbrev pub opened_as : LogFault → OpenFault
+opened_as logs.Disk = opens.Disk
+opened_as (logs.Damaged area at) = opens.Damaged area at
+opened_as (logs.Full len) = opens.Full len
+opened_as logs.Memory = opens.Memory
+
+abbrev pub refused_as : LogFault → JournalFault
+refused_as logs.Disk = journals.Disk
+refused_as (logs.Damaged area at) = journals.Disk
+refused_as (logs.Full len) = journals.Full len
+refused_as logs.Memory = journals.Memory
+
+-- what a call that judges gives: the value, unless memory was wanting
+abbrev pub Says : {T : Type 0} → Result T OpenFault → Result T OpenFault → Type 0
+Says walked (Ok x) = walked ≡ Ok x
+Says walked (Err fault) = (fault ≡ opens.Memory) ⊎ (walked ≡ Err fault)
+
+-- why the bytes at a place are no record
+abbrev pub refused_at : ℕ → CodecFault → OpenFault
+refused_at at fields.Memory = opens.Memory
+refused_at at other = opens.BadRecord at
+
+-- `Disk` comes only where the count of faults rose, and nothing else raises it
+pub record JournalCauses {T : Type 0} (before now : ℕ) (result : Result T JournalFault) : Type 0 where
+  pub later : before ≤ now
+  pub disk : IsErrOf result journals.Disk → Rose before now
+  pub memory : IsErrOf result journals.Memory → now ≡ before
+  pub full : (len : ℕ) → IsErrOf result (journals.Full len) → now ≡ before
+  pub kept : OnOk result (now ≡ before)
+
+pub record OpenCauses {T : Type 0} (before now : ℕ) (result : Result T OpenFault) : Type 0 where
+  pub later : before ≤ now
+  pub disk : IsErrOf result opens.Disk → Rose before now
+  pub memory : IsErrOf result opens.Memory → now ≡ before
+  pub kept : OnOk result (now ≡ before)

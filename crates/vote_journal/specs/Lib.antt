@@ -1,0 +1,5 @@
+pub mod Spelling
+pub mod Epochs
+pub mod Grammar
+pub mod Journal
+pub mod Faults
