@@ -1,2 +1,16 @@
 pub mod Lines
 pub mod Parts
+pub mod Rings
+pub mod Learner
+pub mod Acceptor
+pub mod Coordinator
+pub mod Trimming
+pub mod Node
+pub mod Merging
+pub mod Recovery
+pub mod Learning
+pub mod Bases
+pub mod Tick
+pub mod Step
+pub mod Opening
+pub mod Client

@@ -1,0 +1,97 @@
+-- How a ready replica takes what was learned: place after place in the one order of its rings, and entry after entry.
+use Rattle.std.specs.Prelude.{ℕ, zero, suc, ◌+◌, ◌^◌, List, [], ◌∷◌, ◌++◌, map, Option, Some, None, Bool, if◌then◌else◌, nat_lt}
+use Rattle.std.specs.Option.{option_map_or}
+use Rattle.mrp_types.specs.declared.id.NodeId.{NodeId}
+use Rattle.mrp_types.specs.declared.id.RingId.{RingId}
+use Rattle.mrp_types.specs.declared.id.Party.TheVariants.{Node, Client}
+use Rattle.mrp_types.specs.declared.id.TheConstants.{END}
+use Rattle.mrp_types.specs.declared.place.Place.{Place}
+use Rattle.mrp_types.specs.declared.value.Value.{Value}
+use Rattle.mrp_types.specs.declared.value.Value.TheVariants.{Skip, Batch}
+use Rattle.mrp_types.specs.declared.value.Entry.{Entry}
+use Rattle.mrp_config.specs.Config.{Config, round_of}
+use Rattle.frames.specs.declared.sent.Sent.{Sent}
+use Rattle.frames.specs.declared.body.Body.TheVariants.{Reply as ReplyFrame}
+use Rattle.plain_model.specs.Replica.{applies, entries_of_batch, Replied}
+use Rattle.plain_model.specs.Tuples.{next_place, past}
+use Rattle.protocol.specs.Lines.{Line, Deliver, Reply}
+use Rattle.protocol.specs.Parts.{Ring, Part}
+use Rattle.protocol.specs.Learner.{value_in}
+use Rattle.protocol.specs.Node.{Acting, View, RingPart, Service, Stage, Ready, Standing, part_at, with_stage, prints}
+
+-- how many instances of a ring a round holds, by the ring's number
+abbrev pub rounds : Config → ℕ → ℕ
+rounds config ring = round_of config (record { 0 = ring })
+
+-- what was learned at a place, of a ring of which the node is a member; nothing at the end of all instances
+abbrev pub value_of_part : Option RingPart → ℕ → Option Value
+value_of_part None inst = None
+value_of_part (Some p) inst = if nat_lt inst END then value_in p.part.learner inst else None
+
+abbrev pub value_at_place : View → Place → Option Value
+value_at_place view place = value_of_part (part_at view place.ring) place.inst
+
+-- the place for which a replica waits, or which it takes next
+abbrev pub place_of : Config → Standing → Place
+place_of config standing = next_place (rounds config) standing.tuple
+
+-- ---- replies
+
+-- the line of a reply
+abbrev pub reply_line : NodeId → Place → Replied → Line
+reply_line node place r = Reply node place.ring place.inst r.index r.entry.client r.entry.seq r.reply
+
+-- and its frame, to the client that the entry names
+abbrev pub reply_frame : NodeId → Service → Replied → Sent
+reply_frame node service r = record {
+  to = Client r.entry.client;
+  frame = record { from = Node node; body = ReplyFrame r.entry.client r.entry.seq service.partition.id r.reply };
+}
+
+-- the lines and the frames of a batch's replies, in the order of its entries
+abbrev pub replying : Service → Place → List Replied → Acting → Acting
+replying service place replied a = record a {
+  lines = a.lines ++ map (reply_line a.view.id place) replied;
+  replies = a.replies ++ map (reply_frame a.view.id service) replied;
+}
+
+-- ---- places
+
+-- just past the place, in the same state: a skip place prints nothing
+abbrev pub skipped : Config → Standing → Standing
+skipped config standing = record standing { tuple = past (rounds config) standing.tuple }
+
+-- just past the place, with one deliver line more
+abbrev pub passed_batch : Config → Standing → Standing
+passed_batch config standing = record standing { tuple = past (rounds config) standing.tuple; delivered = standing.delivered + 1 }
+
+-- A batch is delivered: its line, then its entries in order, each with the line and the frame of its reply where it has one.
+abbrev pub delivers : Config → Service → Standing → Place → List ℕ → Acting → Acting
+delivers config service standing place batch a =
+    let applied = applies service.partition standing.replica (entries_of_batch batch) in
+    with_stage service (Ready (record (passed_batch config standing) { replica = applied.replica }))
+    (replying service place applied.replied (prints (Deliver a.view.id place.ring place.inst ∷ []) a))
+
+abbrev pub takes_place : Config → Service → Standing → Place → Value → Acting → Acting
+takes_place config service standing place Skip a = with_stage service (Ready (skipped config standing)) a
+takes_place config service standing place (Batch batch) a = delivers config service standing place batch a
+
+abbrev pub goes_on : (Acting → Acting) → Config → Service → Standing → Place → Option Value → Acting → Acting
+goes_on rest config service standing place None a = a
+goes_on rest config service standing place (Some value) a = rest (takes_place config service standing place value a)
+
+abbrev pub merges_stage : (Acting → Acting) → Config → Service → Stage → Acting → Acting
+merges_stage rest config service (Ready standing) a = goes_on rest config service standing (place_of config standing) (value_at_place a.view (place_of config standing)) a
+merges_stage rest config service other a = a
+
+abbrev pub merges_service : (Acting → Acting) → Config → Option Service → Acting → Acting
+merges_service rest config None a = a
+merges_service rest config (Some service) a = merges_stage rest config service service.stage a
+
+abbrev pub merges_up_to : ℕ → Config → Acting → Acting
+merges_up_to zero config a = a
+merges_up_to (suc most) config a = merges_service (merges_up_to most config) config a.view.service a
+
+-- A ready replica takes place after place while the next one is learned. There are fewer places than this below the end.
+unfoldable pub merges : Config → Acting → Acting
+merges config a = merges_up_to (2 ^ 44 + 1) config a
