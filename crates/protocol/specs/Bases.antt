@@ -1,7 +1,8 @@
 -- Where the learners of a node begin: below that nothing is kept.
 use Rattle.std.specs.Prelude.{ℕ, min, map, List, Option, Some, None, Bool, if◌then◌else◌}
+use Rattle.std.specs.Option.{unwrap_or}
 use Rattle.mrp_config.specs.Config.{has_ring}
-use Rattle.plain_model.specs.Tuples.{entry_of}
+use Rattle.plain_model.specs.Tuples.{entry_at}
 use Rattle.protocol.specs.Parts.{Ring, Part}
 use Rattle.protocol.specs.Rings.{is_acceptor}
 use Rattle.protocol.specs.Learner.{with_base}
@@ -15,7 +16,7 @@ kept_from ring part entry = if is_acceptor ring then min entry part.kept.trim el
 -- node that is only an acceptor; else as before
 abbrev pub base_by_stage : Ring → Part → Stage → ℕ
 base_by_stage ring part (Recovering attempt) = part.learner.base
-base_by_stage ring part (Ready standing) = kept_from ring part (entry_of ring.id standing.tuple part.learner.base)
+base_by_stage ring part (Ready standing) = kept_from ring part (unwrap_or (entry_at ring.id standing.tuple) part.learner.base)
 
 abbrev pub base_by : Ring → Part → Option Service → ℕ
 base_by ring part None = part.kept.trim

@@ -5,51 +5,46 @@ use Rattle.mrp_types.specs.declared.id.NodeId.{NodeId}
 use Rattle.mrp_types.specs.declared.id.RingId.{RingId}
 use Rattle.mrp_types.specs.declared.id.Party.TheVariants.{Node, Client}
 use Rattle.mrp_types.specs.declared.id.TheConstants.{END}
-use Rattle.mrp_types.specs.declared.place.Place.{Place}
 use Rattle.mrp_types.specs.declared.value.Value.{Value}
 use Rattle.mrp_types.specs.declared.value.Value.TheVariants.{Skip, Batch}
 use Rattle.mrp_types.specs.declared.value.Entry.{Entry}
-use Rattle.mrp_config.specs.Config.{Config, round_of}
+use Rattle.mrp_config.specs.Config.{Config}
 use Rattle.frames.specs.declared.sent.Sent.{Sent}
 use Rattle.frames.specs.declared.body.Body.TheVariants.{Reply as ReplyFrame}
-use Rattle.plain_model.specs.Replica.{applies, entries_of_batch, Replied}
-use Rattle.plain_model.specs.Tuples.{next_place, past}
+use Rattle.plain_model.specs.Replicas.{AppliedAll, applies, entries_of_batch}
+use Rattle.plain_model.specs.Tuples.{round_sizes, next_place, past}
 use Rattle.protocol.specs.Lines.{Line, Deliver, Reply}
 use Rattle.protocol.specs.Parts.{Ring, Part}
 use Rattle.protocol.specs.Learner.{value_in}
 use Rattle.protocol.specs.Node.{Acting, View, RingPart, Service, Stage, Ready, Standing, part_at, with_stage, prints}
-
--- how many instances of a ring a round holds, by the ring's number
-abbrev pub rounds : Config → ℕ → ℕ
-rounds config ring = round_of config (record { 0 = ring })
 
 -- what was learned at a place, of a ring of which the node is a member; nothing at the end of all instances
 abbrev pub value_of_part : Option RingPart → ℕ → Option Value
 value_of_part None inst = None
 value_of_part (Some p) inst = if nat_lt inst END then value_in p.part.learner inst else None
 
-abbrev pub value_at_place : View → Place → Option Value
-value_at_place view place = value_of_part (part_at view place.ring) place.inst
+abbrev pub value_at_place : View → RingId × ℕ → Option Value
+value_at_place view place = value_of_part (part_at view place.0) place.1
 
 -- the place for which a replica waits, or which it takes next
-abbrev pub place_of : Config → Standing → Place
-place_of config standing = next_place (rounds config) standing.tuple
+abbrev pub place_of : Config → Standing → RingId × ℕ
+place_of config standing = next_place (round_sizes config) standing.tuple
 
 -- ---- replies
 
 -- the line of a reply
-abbrev pub reply_line : NodeId → Place → Replied → Line
-reply_line node place r = Reply node place.ring place.inst r.index r.entry.client r.entry.seq r.reply
+abbrev pub reply_line : NodeId → RingId × ℕ → ℕ × Entry × List ℕ → Line
+reply_line node place r = Reply node place.0 place.1 r.0 r.1.client r.1.seq r.2
 
 -- and its frame, to the client that the entry names
-abbrev pub reply_frame : NodeId → Service → Replied → Sent
+abbrev pub reply_frame : NodeId → Service → ℕ × Entry × List ℕ → Sent
 reply_frame node service r = record {
-  to = Client r.entry.client;
-  frame = record { from = Node node; body = ReplyFrame r.entry.client r.entry.seq service.partition.id r.reply };
+  to = Client r.1.client;
+  frame = record { from = Node node; body = ReplyFrame r.1.client r.1.seq service.partition.id r.2 };
 }
 
 -- the lines and the frames of a batch's replies, in the order of its entries
-abbrev pub replying : Service → Place → List Replied → Acting → Acting
+abbrev pub replying : Service → RingId × ℕ → List (ℕ × Entry × List ℕ) → Acting → Acting
 replying service place replied a = record a {
   lines = a.lines ++ map (reply_line a.view.id place) replied;
   replies = a.replies ++ map (reply_frame a.view.id service) replied;
@@ -59,24 +54,27 @@ replying service place replied a = record a {
 
 -- just past the place, in the same state: a skip place prints nothing
 abbrev pub skipped : Config → Standing → Standing
-skipped config standing = record standing { tuple = past (rounds config) standing.tuple }
+skipped config standing = record standing { tuple = past (round_sizes config) standing.tuple }
 
 -- just past the place, with one deliver line more
 abbrev pub passed_batch : Config → Standing → Standing
-passed_batch config standing = record standing { tuple = past (rounds config) standing.tuple; delivered = standing.delivered + 1 }
+passed_batch config standing = record standing { tuple = past (round_sizes config) standing.tuple; delivered = standing.delivered + 1 }
 
 -- A batch is delivered: its line, then its entries in order, each with the line and the frame of its reply where it has one.
-abbrev pub delivers : Config → Service → Standing → Place → List ℕ → Acting → Acting
-delivers config service standing place batch a =
-    let applied = applies service.partition standing.replica (entries_of_batch batch) in
+abbrev pub delivers_applied : Config → Service → Standing → RingId × ℕ → AppliedAll → Acting → Acting
+delivers_applied config service standing place applied a =
     with_stage service (Ready (record (passed_batch config standing) { replica = applied.replica }))
-    (replying service place applied.replied (prints (Deliver a.view.id place.ring place.inst ∷ []) a))
+    (replying service place applied.replies (prints (Deliver a.view.id place.0 place.1 ∷ []) a))
 
-abbrev pub takes_place : Config → Service → Standing → Place → Value → Acting → Acting
+abbrev pub delivers : Config → Service → Standing → RingId × ℕ → List ℕ → Acting → Acting
+delivers config service standing place batch a =
+    delivers_applied config service standing place (applies service.partition standing.replica (entries_of_batch batch)) a
+
+abbrev pub takes_place : Config → Service → Standing → RingId × ℕ → Value → Acting → Acting
 takes_place config service standing place Skip a = with_stage service (Ready (skipped config standing)) a
 takes_place config service standing place (Batch batch) a = delivers config service standing place batch a
 
-abbrev pub goes_on : (Acting → Acting) → Config → Service → Standing → Place → Option Value → Acting → Acting
+abbrev pub goes_on : (Acting → Acting) → Config → Service → Standing → RingId × ℕ → Option Value → Acting → Acting
 goes_on rest config service standing place None a = a
 goes_on rest config service standing place (Some value) a = rest (takes_place config service standing place value a)
 

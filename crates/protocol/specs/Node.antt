@@ -13,7 +13,9 @@ use Rattle.vote_journal.specs.Journal.{Journal, record_calls, recorded, recorded
 use Rattle.ring_link.specs.Silence.{Link}
 use Rattle.mrp_config.specs.declared.tables.PartitionTable.{PartitionTable}
 use Rattle.checkpoint.specs.Checks.{Checks, save_calls}
-use Rattle.plain_model.specs.Replica.{Replica, state_bytes}
+use Rattle.plain_model.specs.Replicas.{Replica}
+use Rattle.plain_model.specs.States.{state_bytes}
+use Rattle.plain_model.specs.Tuples.{instances}
 use Rattle.protocol.specs.Lines.{Line}
 use Rattle.protocol.specs.Parts.{Ring, Part}
 
@@ -164,15 +166,11 @@ with_part ring part a = record a { view = record a.view { parts = with_part_in r
 abbrev pub with_stage : Service → Stage → Acting → Acting
 with_stage service stage a = record a { view = record a.view { service = Some (record service { stage = stage }) } }
 
--- the instances of a tuple alone, as lines have them
-abbrev pub instances_of : List (RingId × ℕ) → List ℕ
-instances_of tuple = map (λ (x : RingId × ℕ). x.1) tuple
-
 -- ---- what is shown of a node
 
 abbrev pub shown_of_stage : Stage → Option (List ℕ × List ℕ)
 shown_of_stage (Recovering attempt) = None
-shown_of_stage (Ready standing) = Some (instances_of standing.tuple, state_bytes standing.replica)
+shown_of_stage (Ready standing) = Some (instances standing.tuple, state_bytes standing.replica)
 
 abbrev pub shown_of : Option Service → Option (List ℕ × List ℕ)
 shown_of None = None

@@ -2,6 +2,7 @@
 -- greatest, gathers its bytes part by part, and goes on from there.
 use Rattle.std.specs.Prelude.{ℕ, ◌+◌, ◌-◌, ◌^◌, List, [], ◌∷◌, ◌++◌, length, map, filter, Option, Some, None, Bool, true, false, not, if◌then◌else◌, ◌==◌, nat_lt, nat_le, ◌&&◌, ◌||◌, min}
 use Rattle.std.specs.List.{flat_map}
+use Rattle.std.specs.Option.{unwrap_or}
 use Rattle.mrp_types.specs.declared.id.NodeId.{NodeId}
 use Rattle.mrp_types.specs.declared.id.RingId.{RingId}
 use Rattle.mrp_types.specs.declared.id.TheConstants.{END}
@@ -10,14 +11,15 @@ use Rattle.mrp_config.specs.declared.tables.PartitionTable.{PartitionTable}
 use Rattle.frames.specs.declared.sent.Sent.{Sent}
 use Rattle.frames.specs.declared.body.Body.{Body}
 use Rattle.frames.specs.declared.body.Body.TheVariants.{AskCheckpoint, HaveCheckpoint, AskPart, Part as PartFrame, Gone as GoneFrame}
-use Rattle.checkpoint.specs.Checks.{Checks, Checkpoint, PartAnswer, Part as PartOf, Gone, Unknown, part_of}
-use Rattle.plain_model.specs.Replica.{Replica, empty_replica, state_of}
-use Rattle.plain_model.specs.Tuples.{first_tuple, is_valid_tuple, is_same_tuple, is_tuple_before, entry_of}
+use Rattle.checkpoint.specs.Checks.{Checks, Checkpoint, PartAnswer, Part as PartOf, Gone, Unknown, part_of, is_same_tuple, is_after}
+use Rattle.plain_model.specs.Replicas.{Replica, empty_replica}
+use Rattle.plain_model.specs.States.{state_of}
+use Rattle.plain_model.specs.Tuples.{round_sizes, first_tuple, is_tuple_of, entry_at, instances}
 use Rattle.protocol.specs.Lines.{Line, Begin, Chose, Restore, Refuse, AttemptLimit}
 use Rattle.protocol.specs.Rings.{by_id, sends_to}
 use Rattle.protocol.specs.Learner.{lowered}
-use Rattle.protocol.specs.Node.{Acting, View, RingPart, Service, Stage, Recovering, Ready, Standing, Attempt, Choice, with_stage, prints, sends_all, instances_of}
-use Rattle.protocol.specs.Merging.{rounds, merges}
+use Rattle.protocol.specs.Node.{Acting, View, RingPart, Service, Stage, Recovering, Ready, Standing, Attempt, Choice, with_stage, prints, sends_all}
+use Rattle.protocol.specs.Merging.{merges}
 
 -- ---- what is known of the own node
 
@@ -25,7 +27,7 @@ abbrev pub epoch_of : View → ℕ
 epoch_of view = view.journal.state.epoch
 
 abbrev pub tuple_of_newest : PartitionTable → Option Checkpoint → List (RingId × ℕ)
-tuple_of_newest partition None = first_tuple partition
+tuple_of_newest partition None = first_tuple partition.rings
 tuple_of_newest partition (Some newest) = newest.tuple
 
 -- the tuple of the newest own checkpoint, or of zeros without one
@@ -42,7 +44,7 @@ others_of own partition = by_id (filter (is_other own) partition.replicas)
 -- ---- restoring
 
 abbrev pub with_lowered : List (RingId × ℕ) → RingPart → RingPart
-with_lowered tuple p = record p { part = record p.part { learner = lowered (entry_of p.ring.id tuple p.part.learner.base) p.part.learner } }
+with_lowered tuple p = record p { part = record p.part { learner = lowered (unwrap_or (entry_at p.ring.id tuple) p.part.learner.base) p.part.learner } }
 
 -- the base of each of the tuple's rings falls to its entry where it was above
 abbrev pub lowers : List (RingId × ℕ) → Acting → Acting
@@ -53,7 +55,7 @@ unfoldable pub restores : Config → Service → List (RingId × ℕ) → Replic
 restores config service tuple replica a =
     merges config
     (with_stage service (Ready (record { tuple = tuple; replica = replica; delivered = 0 }))
-    (lowers tuple (prints (Restore a.view.id (instances_of tuple) ∷ []) a)))
+    (lowers tuple (prints (Restore a.view.id (instances tuple) ∷ []) a)))
 
 abbrev pub restores_read : Config → Service → List (RingId × ℕ) → Option Replica → Acting → Acting
 restores_read config service tuple None a = a
@@ -61,7 +63,7 @@ restores_read config service tuple (Some replica) a = restores config service tu
 
 -- The own checkpoint is installed; an opening has judged its bytes. The state of zeros is empty.
 abbrev pub installs_own : Config → Service → Option Checkpoint → Acting → Acting
-installs_own config service None a = restores config service (first_tuple service.partition) (empty_replica service.partition) a
+installs_own config service None a = restores config service (first_tuple service.partition.rings) (empty_replica service.partition) a
 installs_own config service (Some newest) a = restores_read config service newest.tuple (state_of service.partition newest.state) a
 
 -- ---- choosing
@@ -71,7 +73,7 @@ installs_own config service (Some newest) a = restores_read config service newes
 abbrev pub is_better : NodeId → NodeId × List (RingId × ℕ) → NodeId × List (RingId × ℕ) → Bool
 is_better own best answer =
     if is_same_tuple best.1 answer.1 then is_other own best.0 && (answer.0.0 == own.0 || nat_lt answer.0.0 best.0.0)
-    else is_tuple_before best.1 answer.1
+    else is_after best.1 answer.1
 
 abbrev pub best_of : NodeId → NodeId × List (RingId × ℕ) → List (NodeId × List (RingId × ℕ)) → NodeId × List (RingId × ℕ)
 best_of own best [] = best
@@ -86,7 +88,7 @@ unfoldable pub chooses : Config → Service → Attempt → NodeId × List (Ring
 chooses config service attempt best a =
     let choice = record { tuple = best.1; from = best.0; bytes = [] } in
     let chosen = with_stage service (Recovering (record attempt { choice = Some choice }))
-        (prints (Chose a.view.id (epoch_of a.view) attempt.number (instances_of best.1) best.0 ∷ []) a) in
+        (prints (Chose a.view.id (epoch_of a.view) attempt.number (instances best.1) best.0 ∷ []) a) in
     if best.0.0 == a.view.id.0 then installs_own config service a.view.checks.newest chosen
     else sends_all (asks_part a.view attempt choice) chosen
 
@@ -113,7 +115,7 @@ begins_next config service a =
     chooses_if_quorum config (record service { attempts = number })
     (record { number = number; ticks = 0; answers = (a.view.id, own) ∷ []; choice = None })
     (sends_all (flat_map (asks_checkpoint a.view number) (others_of a.view.id service.partition))
-    (prints (Begin a.view.id (epoch_of a.view) number (instances_of own) ∷ []) a))
+    (prints (Begin a.view.id (epoch_of a.view) number (instances own) ∷ []) a))
 
 -- A new attempt begins; where its number would pass four bytes the limit is printed, and the node stays as it was.
 unfoldable pub begins : Config → Service → Acting → Acting
@@ -142,7 +144,7 @@ takes_answer config service attempt None from tuple a =
 unfoldable pub answered_by : Config → Service → Attempt → NodeId → ℕ → ℕ → List (RingId × ℕ) → Acting → Acting
 answered_by config service attempt from epoch number tuple a =
     if is_of a.view attempt epoch number && (has_node service.partition.replicas from.0
-    && (not (has_answered from attempt.answers) && is_valid_tuple (rounds config) service.partition tuple))
+    && (not (has_answered from attempt.answers) && is_tuple_of (round_sizes config) service.partition.rings tuple))
     then takes_answer config service attempt attempt.choice from tuple a else a
 
 -- ---- parts
@@ -177,7 +179,7 @@ abbrev pub gone_for : Config → Service → Attempt → Option Choice → NodeI
 gone_for config service attempt None from epoch number asked newer a = a
 gone_for config service attempt (Some choice) from epoch number asked newer a =
     if is_of a.view attempt epoch number && (is_of_choice choice from asked
-    && (is_valid_tuple (rounds config) service.partition newer && is_tuple_before choice.tuple newer))
+    && (is_tuple_of (round_sizes config) service.partition.rings newer && is_after choice.tuple newer))
     then chooses config service attempt (choice.from, newer) a else a
 
 -- The chosen checkpoint is gone: the newer one of the same node is the choice, from its first byte on.
@@ -198,7 +200,7 @@ answer_part epoch number tuple offset Unknown = []
 -- and with a part of it, or that it is gone; it sends nothing where neither can be said, or the tuple is none of the partition
 abbrev pub tells_part : Config → Service → NodeId → ℕ → ℕ → List (RingId × ℕ) → ℕ → Acting → Acting
 tells_part config service from epoch number tuple offset a =
-    if is_valid_tuple (rounds config) service.partition tuple
+    if is_tuple_of (round_sizes config) service.partition.rings tuple
     then sends_all (flat_map (sends_to a.view.id from) (answer_part epoch number tuple offset (part_of a.view.checks tuple offset))) a
     else a
 
@@ -207,7 +209,7 @@ tells_part config service from epoch number tuple offset a =
 -- what of a ring its newest checkpoint makes safe: the entry, 0 without one, and less than the end in any case
 abbrev pub safe_in : RingId → Option Checkpoint → ℕ
 safe_in ring None = 0
-safe_in ring (Some newest) = min (entry_of ring newest.tuple 0) (END - 1)
+safe_in ring (Some newest) = min (unwrap_or (entry_at ring newest.tuple) 0) (END - 1)
 
 abbrev pub safe_of : View → RingId → Option Service → Option ℕ
 safe_of view ring None = None

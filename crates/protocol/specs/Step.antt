@@ -6,7 +6,6 @@ use Rattle.mrp_types.specs.declared.id.ClientId.{ClientId}
 use Rattle.mrp_types.specs.declared.id.Party.{Party}
 use Rattle.mrp_types.specs.declared.id.Party.TheVariants.{Node, Client}
 use Rattle.mrp_types.specs.declared.id.TheConstants.{END}
-use Rattle.mrp_types.specs.declared.place.Place.{Place}
 use Rattle.mrp_config.specs.Config.{Config, has_ring}
 use Rattle.mrp_config.specs.declared.routing.NoGroup.{NoGroup}
 use Rattle.mrp_config.specs.Routing.{concerned_of, route_of}
@@ -17,7 +16,6 @@ use Rattle.frames.specs.declared.frame.Frame.{Frame}
 use Rattle.frames.specs.declared.body.Body.{Body}
 use Rattle.frames.specs.declared.body.Body.TheVariants.{Submit, Prepare, Promise, Refuse, Accept, Decide, Fetch, Chosen, Trimmed, AskSafe, Safe, TrimTo, AskCheckpoint, HaveCheckpoint, AskPart, Part as PartFrame, Gone, Reply, Hello}
 use Rattle.ring_link.specs.Silence.{with_heard}
-use Rattle.plain_model.specs.Tuples.{entry_of}
 use Rattle.checkpoint.specs.Checks.{Checkpoint}
 use Rattle.protocol.specs.Parts.{Ring, Part, Did, Learner}
 use Rattle.protocol.specs.Rings.{is_acceptor, sends_to}
@@ -27,15 +25,16 @@ use Rattle.protocol.specs.Learner.{decided, chosen, with_base}
 use Rattle.protocol.specs.Trimming.{answers}
 use Rattle.protocol.specs.Node.{Acting, View, RingPart, Service, Stage, Recovering, Ready, Standing, Attempt, Event, Ticks, Takes, Leads, Stepped, begun_with, finished, part_at, with_view, sends_all}
 use Rattle.protocol.specs.Merging.{place_of, value_at_place}
-use Rattle.protocol.specs.Recovery.{begins, answered_by, takes_part, takes_gone, tells_checkpoint, tells_part}
+use Rattle.protocol.specs.Recovery.{begins, answered_by, takes_part, takes_gone, tells_checkpoint, tells_part, safe_of}
+use Rattle.protocol.specs.Bases.{rebases}
 use Rattle.protocol.specs.Learning.{does}
 use Rattle.protocol.specs.Tick.{ticks}
 
 -- ---- trims that a replica can't keep up with
 
 -- whether the merge waits on the ring at an instance below the trim
-abbrev pub waits_below : RingId → ℕ → Place → Bool
-waits_below ring trim place = (place.ring.0 == ring.0) && nat_lt place.inst trim
+abbrev pub waits_below : RingId → ℕ → RingId × ℕ → Bool
+waits_below ring trim place = (place.0.0 == ring.0) && nat_lt place.1 trim
 
 abbrev pub begins_if_behind : Config → RingId → ℕ → Service → Stage → Acting → Acting
 begins_if_behind config ring trim service (Recovering attempt) a = a

@@ -3,21 +3,21 @@ use Rattle.std.specs.Prelude.{ℕ, ◌+◌, ◌-◌, ◌*◌, ◌/◌, ◌%◌, 
 use Rattle.std.specs.List.{flat_map, list_any}
 use Rattle.mrp_types.specs.declared.id.NodeId.{NodeId}
 use Rattle.mrp_types.specs.declared.id.RingId.{RingId}
-use Rattle.mrp_types.specs.declared.place.Place.{Place}
 use Rattle.mrp_config.specs.Config.{Config, has_node}
 use Rattle.mrp_config.specs.declared.tables.NodeTable.{NodeTable}
 use Rattle.frames.specs.declared.sent.Sent.{Sent}
 use Rattle.frames.specs.declared.body.Body.TheVariants.{Fetch, Hello}
 use Rattle.ring_link.specs.Silence.{with_tick}
 use Rattle.vote_journal.specs.Journal.{compacted_journal}
-use Rattle.plain_model.specs.Replica.{state_bytes}
+use Rattle.plain_model.specs.States.{state_bytes}
+use Rattle.plain_model.specs.Tuples.{instances}
 use Rattle.checkpoint.specs.Checks.{saved}
 use Rattle.protocol.specs.Lines.{Line, Saved}
 use Rattle.protocol.specs.Parts.{Ring, Part, Did}
 use Rattle.protocol.specs.Rings.{is_acceptor, sends, sends_to}
 use Rattle.protocol.specs.Coordinator.{is_active, starts_on_tick, resends, levels}
 use Rattle.protocol.specs.Trimming.{asks_round}
-use Rattle.protocol.specs.Node.{Acting, View, RingPart, Service, Stage, Recovering, Ready, Standing, Attempt, Stepped, Nothing, Records, Saves, Compacts, begun_with, finished, part_at, with_view, with_stage, sends_all, instances_of, part_in}
+use Rattle.protocol.specs.Node.{Acting, View, RingPart, Service, Stage, Recovering, Ready, Standing, Attempt, Stepped, Nothing, Records, Saves, Compacts, begun_with, finished, part_at, with_view, with_stage, sends_all}
 use Rattle.protocol.specs.Merging.{place_of}
 use Rattle.protocol.specs.Recovery.{recovery_ticks, safe_of}
 use Rattle.protocol.specs.Learning.{does}
@@ -30,7 +30,7 @@ saves view service standing state = record {
   view = record view { checks = saved view.checks standing.tuple state; service = Some (record service { stage = Ready (record standing { delivered = 0 }) }) };
   work = Saves standing.tuple state;
   frames = [];
-  lines = Saved view.id (instances_of standing.tuple) ∷ [];
+  lines = Saved view.id (instances standing.tuple) ∷ [];
 }
 
 -- as many deliver lines as the deployment asks for, and a generation is left
@@ -92,12 +92,12 @@ asked_at own acceptors position (Some node) = if node.0 == own.0 then slice_get 
 abbrev pub turn_of : NodeId → List NodeId → ℕ → Option NodeId
 turn_of own acceptors beat = asked_at own acceptors (beat % length acceptors) (slice_get acceptors (beat % length acceptors))
 
-abbrev pub fetches_at : ℕ → Place → Option RingPart → Acting → Acting
+abbrev pub fetches_at : ℕ → RingId × ℕ → Option RingPart → Acting → Acting
 fetches_at turn place None a = a
-fetches_at turn place (Some p) a = sends_all (sends p.ring (turn_of a.view.id p.ring.acceptors turn) (Fetch place.ring place.inst)) a
+fetches_at turn place (Some p) a = sends_all (sends p.ring (turn_of a.view.id p.ring.acceptors turn) (Fetch place.0 place.1)) a
 
-abbrev pub fetches_place : ℕ → Place → Acting → Acting
-fetches_place turn place a = fetches_at turn place (part_at a.view place.ring) a
+abbrev pub fetches_place : ℕ → RingId × ℕ → Acting → Acting
+fetches_place turn place a = fetches_at turn place (part_at a.view place.0) a
 
 abbrev pub fetches_stage : Config → ℕ → Stage → Acting → Acting
 fetches_stage config turn (Recovering attempt) a = a
