@@ -1,2 +1,9 @@
 pub mod Lines
 pub mod Parts
+pub mod Rings
+pub mod Doing
+pub mod Learner
+pub mod Acceptor
+pub mod Coordinator
+pub mod Trimming
+pub mod Example
