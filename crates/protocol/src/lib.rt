@@ -2,3 +2,7 @@
 //!
 //! Definitions and laws alone: each function has an empty body, and its contract is the law.
 #![tactic(auto)]
+
+mod tables;
+
+pub use tables::leads_row;
