@@ -1,6 +1,6 @@
 -- What a partition's entries mean, over plain lists: which of them count, what the logs and the table hold after them, what is
 -- replied, the state, and what a client is answered. Nothing here is kept from one entry to the next.
-use Rattle.std.specs.Prelude.{ℕ, zero, suc, ◌+◌, ◌-◌, ◌^◌, ◌==◌, nat_le, nat_lt, max, Bool, true, false, not, ◌&&◌, ◌||◌, if◌then◌else◌, List, [], ◌∷◌, ◌++◌, length, map, filter, filter_map, drop, take_while, find, slice_get, sum, bytes_eq, is_some, option_map, Option, Some, None, Result, Ok, Err}
+use Rattle.std.specs.Prelude.{ℕ, zero, suc, ◌+◌, ◌-◌, ◌==◌, nat_le, nat_lt, max, Bool, true, false, not, ◌&&◌, ◌||◌, if◌then◌else◌, List, [], ◌∷◌, ◌++◌, map, filter, filter_map, drop, take_while, find, slice_get, sum, bytes_eq, is_some, option_map, Option, Some, None, Result, Ok, Err}
 use Rattle.mrp_types.specs.declared.id.ClientId.{ClientId}
 use Rattle.mrp_types.specs.declared.id.LogId.{LogId}
 use Rattle.mrp_types.specs.declared.id.RingId.{RingId}
@@ -22,7 +22,7 @@ use Rattle.command_codec.specs.Replies.{reply_bytes, joined}
 use Rattle.mrp_config.specs.declared.tables.PartitionTable.{PartitionTable}
 use Rattle.mrp_config.specs.Config.{Config, has_log, has_ring}
 use Rattle.mrp_config.specs.Routing.{is_before, is_concerned, concerned_of}
-use Rattle.plain_model.specs.Tuples.{round_sizes, first_tuple, next_place, past, place_of, tuple_at}
+use Rattle.plain_model.specs.Tuples.{round_sizes, first_tuple, next_place, past, tuple_at}
 use Rattle.plain_model.specs.Replicas.{LogState, Session, Replica, log_length, log_at, value_of, value_or_absent, page_of, scanned, has_no_room, entries_of_batch}
 use Rattle.plain_model.specs.StateBytes.{state_bytes}
 
@@ -273,18 +273,26 @@ last_of client (a ∷ answered) last = last_of client answered (if a.entry.clien
 abbrev pub session_from : Answered → Session
 session_from a = record { client = a.entry.client; seq = a.entry.seq; reply = reply_bytes a.reply }
 
-abbrev pub session_if : Option Answered → List Session
-session_if None = []
-session_if (Some a) = session_from a ∷ []
+-- a client among increasing ones, once
+abbrev pub with_client : ClientId → List ClientId → List ClientId
+with_client client [] = client ∷ []
+with_client client (other ∷ clients) =
+    if client.0 == other.0 then other ∷ clients
+    else if nat_lt client.0 other.0 then client ∷ other ∷ clients
+    else other ∷ with_client client clients
 
--- the clients below this number that have a counted entry, in increasing order, each with its greatest counted number
-abbrev pub sessions_below : ℕ → List Answered → List Session
-sessions_below zero answered = []
-sessions_below (suc client) answered = sessions_below client answered ++ session_if (last_of (record { 0 = client }) answered None)
+-- the clients of some counted entries, in increasing order
+abbrev pub clients_of : List Answered → List ClientId
+clients_of [] = []
+clients_of (a ∷ answered) = with_client a.entry.client (clients_of answered)
+
+-- each client with its greatest counted number, which is that of its last counted entry, and the reply to it
+abbrev pub sessions_of : List Answered → List Session
+sessions_of answered = filter_map (λ (client : ClientId). option_map session_from (last_of client answered None)) (clients_of answered)
 
 -- what a replica keeps after these entries
 unfoldable pub replica_of : PartitionTable → List Answered → Replica
-replica_of p answered = record { sessions = sessions_below 256 answered; logs = logs_of p answered; table = table_of answered }
+replica_of p answered = record { sessions = sessions_of answered; logs = logs_of p answered; table = table_of answered }
 
 abbrev pub replica_after : PartitionTable → List Entry → Replica
 replica_after p es = replica_of p (answered_of p es)

@@ -4,3 +4,4 @@ pub mod Tuples
 pub mod Replicas
 pub mod StateBytes
 pub mod Fold
+pub mod Rows

@@ -1,6 +1,6 @@
 -- What a replica of a partition keeps: for each client its greatest number and the reply to it, the partition's logs, and its
 -- table. The rules of the two services stand here, and what a replica makes of an entry.
-use Rattle.std.specs.Prelude.{ℕ, zero, suc, ◌+◌, ◌-◌, ◌^◌, ◌==◌, nat_lt, nat_le, max, Bool, true, false, not, ◌||◌, if◌then◌else◌, List, [], ◌∷◌, ◌++◌, length, map, filter, filter_map, drop, slice_get, sum_by, bytes_eq, Option, Some, None, Result, Ok, Err}
+use Rattle.std.specs.Prelude.{ℕ, suc, ◌+◌, ◌-◌, ◌^◌, ◌==◌, nat_lt, nat_le, max, Bool, false, not, ◌||◌, if◌then◌else◌, List, [], ◌∷◌, ◌++◌, length, map, filter, filter_map, drop, slice_get, sum_by, bytes_eq, Option, Some, None, Result, Ok, Err}
 use Rattle.mrp_types.specs.declared.id.ClientId.{ClientId}
 use Rattle.mrp_types.specs.declared.id.LogId.{LogId}
 use Rattle.mrp_types.specs.declared.value.Entry.{Entry}
@@ -225,8 +225,9 @@ given_again r session = record { replica = r; reply = Some session.reply }
 -- the reply with these bytes is kept with the client's number
 abbrev pub kept : Replica → Entry → List LogState → List TableEntry → List ℕ → Applied
 kept r e logs table reply = record {
-    replica = record { sessions = with_session (record { client = e.client; seq = e.seq; reply = reply }) r.sessions; logs = logs; table = table };
-    reply = Some reply }
+  replica = record { sessions = with_session (record { client = e.client; seq = e.seq; reply = reply }) r.sessions; logs = logs; table = table };
+  reply = Some reply;
+}
 
 -- the services take the command
 abbrev pub taken_with : Replica → Entry → Effect → Applied
