@@ -82,7 +82,9 @@ impl ConfigFault {
     {
         match self {
             ConfigFault::Repeated(_, id) | ConfigFault::UnknownId(_, id) => Some(*id),
-            ConfigFault::BadQuorums(partition) | ConfigFault::BadRanges(partition) => Some(partition.0),
+            ConfigFault::BadQuorums(partition) | ConfigFault::BadRanges(partition) => Some(
+                partition.0,
+            ),
             ConfigFault::LogTwice(log) => Some(log.0),
             _ => None,
         }

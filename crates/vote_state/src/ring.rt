@@ -6,8 +6,8 @@ ghost use Rattle.vote_state.specs.Ranges.{cast_of, ranges_of, are_held};
 ghost use Rattle.vote_state.specs.Valid.{IsVoted, IsInst};
 ghost use Rattle.vote_state.specs.State.{IsKept, no_votes, with_vote, with_trim, promise_changes, trim_changes, ring_changes};
 
-use crate::cast::Cast;
 use crate::Changes;
+use crate::cast::Cast;
 use mrp_types::{Ballot, Inst, Memory, RingId, Value, Voted, Votes};
 use range_map::RangeMap;
 use std::alloc::Global;
