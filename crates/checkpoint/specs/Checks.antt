@@ -1,5 +1,5 @@
 -- The pair of areas that holds a node's newest checkpoint: what it stands for, and the calls of a save.
-use Rattle.std.specs.Prelude.{ℕ, ◌+◌, ◌-◌, ◌==◌, min, nat_lt, ◌&&◌, ◌||◌, Bool, true, false, if◌then◌else◌, List, [], ◌∷◌, ◌++◌, length, take, drop, Option, Some, None, Result, Ok, Err}
+use Rattle.std.specs.Prelude.{ℕ, ◌+◌, ◌==◌, nat_lt, ◌&&◌, ◌||◌, Bool, true, false, if◌then◌else◌, List, [], ◌∷◌, length, take, drop, Option, Some, None, Result, Ok, Err}
 use Rattle.std.specs.Int.{w64}
 use Rattle.mrp_types.specs.declared.id.RingId.{RingId}
 use Rattle.disk_model.specs.declared.area.Area.{Area}
@@ -13,7 +13,7 @@ use Rattle.gate_area.specs.Standing.{stands}
 use Rattle.gate_log.specs.Journal.{renew_calls}
 use Rattle.command_codec.specs.declared.fault.CodecFault.{CodecFault}
 use Rattle.command_codec.specs.declared.fault.CodecFault.TheVariants.{Short, BadKind, BadField, TooLong, Left, Memory}
-use Rattle.command_codec.specs.Reader.{Reader, Spot, number_at, bytes_at, follow, both, shown}
+use Rattle.command_codec.specs.Reader.{Reader, number_at, bytes_at, follow, both, shown}
 use Rattle.frames.specs.Grammar.{tuple_at, all_of, part_of as part_size}
 use Rattle.checkpoint.specs.Spelling.{checkpoint_body}
 

@@ -1,7 +1,6 @@
 -- Areas of checkpoints, for the worked rows.
-use Rattle.std.specs.Prelude.{ℕ, ◌+◌, List, [], ◌∷◌, ◌++◌, Option, Some, None}
+use Rattle.std.specs.Prelude.{ℕ, List, [], ◌∷◌, ◌++◌}
 use Rattle.mrp_types.specs.declared.id.RingId.{RingId}
-use Rattle.disk_model.specs.declared.area.Area.TheVariants.{Check2}
 use Rattle.disk_model.specs.declared.areas.Areas.{Areas}
 use Rattle.disk_model.specs.Calls.{Told, begun, and_then}
 use Rattle.checkpoint.specs.Checks.{Checks, no_checks, save_calls, saved}

@@ -1,5 +1,5 @@
 -- The bytes of a checkpoint's area.
-use Rattle.std.specs.Prelude.{ℕ, List, [], ◌∷◌, ◌++◌, length}
+use Rattle.std.specs.Prelude.{ℕ, List, ◌∷◌, ◌++◌, length}
 use Rattle.mrp_types.specs.declared.id.RingId.{RingId}
 use Rattle.command_codec.specs.Fields.{u64_bytes}
 use Rattle.frames.specs.Spelling.{tuple_bytes}
