@@ -8,7 +8,6 @@ use Rattle.std.specs.declared.cmp.Ordering.{Ordering}
 use Rattle.mrp_types.specs.declared.id.NodeId.{NodeId}
 use Rattle.mrp_types.specs.declared.id.ClientId.{ClientId}
 use Rattle.mrp_types.specs.declared.id.RingId.{RingId}
-use Rattle.mrp_types.specs.declared.id.PartitionId.{PartitionId}
 use Rattle.mrp_types.specs.declared.id.Party.{Party}
 use Rattle.mrp_types.specs.declared.id.Party.TheVariants.{Node, Client}
 use Rattle.mrp_config.specs.Config.{Config}
@@ -16,7 +15,6 @@ use Rattle.mrp_config.specs.declared.tables.NodeTable.{NodeTable}
 use Rattle.mrp_config.specs.declared.tables.ClientTable.{ClientTable}
 use Rattle.command_codec.specs.declared.command.Command.{Command}
 use Rattle.frames.specs.declared.body.Body.{Body}
-use Rattle.frames.specs.declared.body.Body.TheVariants.{Reply}
 use Rattle.frames.specs.declared.sent.Sent.{Sent}
 use Rattle.frames.specs.Spelling.{frame_bytes}
 use Rattle.transcript.specs.declared.line.ShownFrame.{ShownFrame}
@@ -31,7 +29,7 @@ use Rattle.protocol.specs.Lines as line
 use Rattle.protocol.specs.Node.{View, Event, Ticks, Takes, Leads, Stepped, calls_of, is_full, state_shown}
 use Rattle.protocol.specs.Opening.{opened}
 use Rattle.protocol.specs.Step.{step}
-use Rattle.protocol.specs.Client.{ClientView, ClientDid, new_client, asks, client_ticks, replied}
+use Rattle.protocol.specs.Client.{ClientView, ClientDid, new_client, asks, client_ticks, client_takes}
 use Rattle.world_model.specs.Disks.{Op, Does, Ran, ran, cause_of, settled, no_plan, with_fuse, with_fail, with_fail_read, with_plan, restarted}
 use Rattle.world_model.specs.Opening.{Opening, Kept, opening}
 use Rattle.world_model.specs.Events.{ScheduleEvent}
@@ -166,15 +164,9 @@ opens config id disk w = opens_by config id disk (opening id config.journal (rea
 abbrev pub client_does : ClientId → ClientDid → World → Outcome
 client_does id did w = prints did.lines (sends did.frames (with_client id did.client w))
 
--- a reply to a command of this client; all other frames are dropped
-abbrev pub client_takes : Config → ClientId → ClientView → Body → World → Outcome
-client_takes config id view (Reply client seq partition reply) w =
-    if client.0 == id.0 then client_does id (replied config view seq partition reply) w else quiet w
-client_takes config id view other w = quiet w
-
 abbrev pub client_gets : Config → ClientId → Body → Option ClientView → World → Outcome
 client_gets config id body None w = quiet w
-client_gets config id body (Some view) w = client_takes config id view body w
+client_gets config id body (Some view) w = client_does id (client_takes config view body) w
 
 -- a frame comes to its receiver; to a node that is down it is lost
 abbrev pub delivers_to : Config → Party → Sent → World → Outcome
