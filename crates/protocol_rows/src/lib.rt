@@ -1,0 +1,2 @@
+//! Worked schedules and the lines that they print, each as a law that the checker computes.
+#![tactic(auto)]
