@@ -14,7 +14,7 @@ use Rattle.ring_link.specs.Silence.{Link}
 use Rattle.mrp_config.specs.declared.tables.PartitionTable.{PartitionTable}
 use Rattle.checkpoint.specs.Checks.{Checks, save_calls}
 use Rattle.plain_model.specs.Replicas.{Replica}
-use Rattle.plain_model.specs.States.{state_bytes}
+use Rattle.plain_model.specs.StateBytes.{state_bytes}
 use Rattle.plain_model.specs.Tuples.{instances}
 use Rattle.protocol.specs.Lines.{Line}
 use Rattle.protocol.specs.Parts.{Ring, Part}

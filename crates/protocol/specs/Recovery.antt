@@ -13,7 +13,7 @@ use Rattle.frames.specs.declared.body.Body.{Body}
 use Rattle.frames.specs.declared.body.Body.TheVariants.{AskCheckpoint, HaveCheckpoint, AskPart, Part as PartFrame, Gone as GoneFrame}
 use Rattle.checkpoint.specs.Checks.{Checks, Checkpoint, PartAnswer, Part as PartOf, Gone, Unknown, part_of, is_same_tuple, is_after}
 use Rattle.plain_model.specs.Replicas.{Replica, empty_replica}
-use Rattle.plain_model.specs.States.{state_of}
+use Rattle.plain_model.specs.StateBytes.{state_of}
 use Rattle.plain_model.specs.Tuples.{round_sizes, first_tuple, is_tuple_of, entry_at, instances}
 use Rattle.protocol.specs.Lines.{Line, Begin, Chose, Restore, Refuse, AttemptLimit}
 use Rattle.protocol.specs.Rings.{by_id, sends_to}

@@ -9,7 +9,7 @@ use Rattle.frames.specs.declared.sent.Sent.{Sent}
 use Rattle.frames.specs.declared.body.Body.TheVariants.{Fetch, Hello}
 use Rattle.ring_link.specs.Silence.{with_tick}
 use Rattle.vote_journal.specs.Journal.{compacted_journal}
-use Rattle.plain_model.specs.States.{state_bytes}
+use Rattle.plain_model.specs.StateBytes.{state_bytes}
 use Rattle.plain_model.specs.Tuples.{instances}
 use Rattle.checkpoint.specs.Checks.{saved}
 use Rattle.protocol.specs.Lines.{Line, Saved}
