@@ -3,6 +3,9 @@
 //! Definitions and laws alone: each function has an empty body, and its contract is the law.
 #![tactic(auto)]
 
-mod tables;
+mod rows;
 
-pub use tables::leads_row;
+pub use rows::{
+    a_gap_is_skipped, a_lower_ballot_is_refused, a_majority_decides, a_promise_tells_votes,
+    a_round_ends, a_start_asks_the_others, commands_are_proposed, one_acceptor_decides_at_once,
+};
