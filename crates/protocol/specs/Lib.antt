@@ -6,4 +6,5 @@ pub mod Learner
 pub mod Acceptor
 pub mod Coordinator
 pub mod Trimming
+pub mod Meaning
 pub mod Example
