@@ -6,6 +6,7 @@ pub mod Learner
 pub mod Acceptor
 pub mod Coordinator
 pub mod Trimming
+pub mod Meaning
 pub mod Example
 pub mod Node
 pub mod Merging

@@ -3,8 +3,12 @@
 //! Definitions and laws alone: each function has an empty body, and its contract is the law.
 #![tactic(auto)]
 
+mod laws;
 mod rows;
 
+pub use laws::{
+    a_start_takes_the_least_ballot, pages_are_longest_prefixes, the_first_value_stays, the_higher_vote_stands,
+};
 pub use rows::{
     a_gap_is_skipped, a_lower_ballot_is_refused, a_majority_decides, a_promise_tells_votes,
     a_round_ends, a_start_asks_the_others, commands_are_proposed, one_acceptor_decides_at_once,

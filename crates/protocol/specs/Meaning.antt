@@ -1,0 +1,70 @@
+-- What the words of the tables stand for, as plain relations.
+use Rattle.std.specs.Prelude.{◌≡◌, ◌⊎◌, ◌↔◌, ℕ, suc, ◌+◌, ◌%◌, ◌<◌, ◌≤◌, nat_lt, nat_le, Bool, true, false, List, [], ◌∷◌, ◌++◌, count_by, Option, Some, None, IsSome}
+use Rattle.mrp_types.specs.declared.value.Value.{Value}
+use Rattle.mrp_types.specs.declared.voted.Voted.{Voted}
+use Rattle.mrp_types.specs.declared.voted.Decided.{Decided}
+use Rattle.mrp_types.specs.declared.value.Value.TheVariants.{Skip}
+use Rattle.range_map.specs.Entries.{value_at, IsIncreasingFrom}
+use Rattle.vote_state.specs.declared.cast.Cast.{Cast}
+use Rattle.protocol.specs.Parts.{Ring, Campaign, Learner}
+use Rattle.protocol.specs.Rings.{majority_of}
+use Rattle.protocol.specs.Acceptor.{left_out}
+use Rattle.protocol.specs.Coordinator.{due_at}
+
+-- ---- pages
+
+-- how many bytes some entries take
+abbrev pub bytes_of : {T : Type 0} → (T → ℕ) → List T → ℕ
+bytes_of size [] = 0
+bytes_of size (x ∷ xs) = size x + bytes_of size xs
+
+-- a front of the entries that takes at most this many bytes; the first entry that is left out would not fit
+pub record IsLongestPrefix {T : Type 0} (size : T → ℕ) (room : ℕ) (all page : List T) : Type 0 where
+  pub prefix : page ++ left_out page all ≡ all
+  pub fits : bytes_of size page ≤ room
+  pub longest : (x : T) (xs : List T) → left_out page all ≡ x ∷ xs → room < bytes_of size page + size x
+
+-- ---- entries at instances
+
+-- each instance of the range holds what `met` makes of what was held there and of v, all others what they held
+pub record Meets {T : Type 0} (met : Option T → T → T) (lo hi : ℕ) (v : T) (old new : List (ℕ × T)) : Type 0 where
+  pub in_order : IsIncreasingFrom 0 new
+  pub within : (i : ℕ) → lo ≤ i → i < hi → value_at i new ≡ Some (met (value_at i old) v)
+  pub below : (i : ℕ) → i < lo → value_at i new ≡ value_at i old
+  pub above : (i : ℕ) → hi ≤ i → value_at i new ≡ value_at i old
+
+-- each instance of the range is held
+abbrev pub AreHeld : {T : Type 0} → ℕ → ℕ → List (ℕ × T) → Type 0
+AreHeld lo hi es = (i : ℕ) → lo ≤ i → i < hi → IsSome (value_at i es)
+
+-- ---- ballots
+
+-- the least number above a floor that leaves this rest by n
+pub record IsLeastAbove (floor n rest number : ℕ) : Type 0 where
+  pub above : floor < number
+  pub leaves : number % n ≡ rest
+  pub least : (other : ℕ) → floor < other → other % n ≡ rest → number ≤ other
+
+-- ---- coverage
+
+-- how many positions are covered past an instance
+abbrev pub covered_past : ℕ → List ℕ → ℕ
+covered_past inst covered = count_by (λ c. nat_lt inst c) covered
+
+-- a majority of positions is covered past an instance
+abbrev pub IsCovered : Ring → List ℕ → ℕ → Type 0
+IsCovered ring covered inst = majority_of ring ≤ covered_past inst covered
+
+-- ---- runs of due Skips
+
+-- the instance is covered by a majority and not learned, and Skip is due there
+pub record IsDueSkip (ring : Ring) (campaign : Campaign) (held : List (ℕ × Value)) (inst : ℕ) : Type 0 where
+  pub covered : IsCovered ring campaign.covered inst
+  pub unlearned : value_at inst held ≡ None
+  pub due : due_at ring campaign inst ≡ Some Skip
+
+-- From next on each instance of the run is a due Skip; the one behind it isn't, or the run has 65,536 instances.
+pub record IsLongestRun (ring : Ring) (campaign : Campaign) (held : List (ℕ × Value)) (end : ℕ) : Type 0 where
+  pub each : (i : ℕ) → campaign.next ≤ i → i < end → IsDueSkip ring campaign held i
+  pub few : end ≤ campaign.next + 65536
+  pub longest : (end ≡ campaign.next + 65536) ⊎ (IsDueSkip ring campaign held end → ⊥)
