@@ -9,7 +9,8 @@ use Rattle.vote_journal.specs.Journal.{Journal}
 use Rattle.ring_link.specs.Silence.{Link, link_after}
 use Rattle.checkpoint.specs.Checks.{Checks}
 use Rattle.protocol.specs.Parts.{Ring}
-use Rattle.protocol.specs.Rings.{ring_of, is_member, new_part}
+use Rattle.protocol.specs.Rings.{ring_of, is_member}
+use Rattle.protocol.specs.Learner.{new_part}
 use Rattle.protocol.specs.Node.{View, RingPart, Service, Recovering, Stepped, begun_with, finished, Acting}
 use Rattle.protocol.specs.Recovery.{begins}
 use Rattle.protocol.specs.Bases.{rebases}

@@ -83,14 +83,17 @@ best_of own best (answer ∷ answers) = best_of own (if is_better own best answe
 abbrev pub asks_part : View → Attempt → Choice → List Sent
 asks_part view attempt choice = sends_to view.id choice.from (AskPart (epoch_of view) attempt.number choice.tuple (length choice.bytes))
 
+-- the own checkpoint is installed; of another node the first part is asked for
+abbrev pub gathers : Config → Service → Attempt → Choice → Acting → Acting
+gathers config service attempt choice a =
+    if choice.from.0 == a.view.id.0 then installs_own config service a.view.checks.newest (with_stage service (Recovering (record attempt { choice = Some choice })) a)
+    else sends_all (asks_part a.view attempt choice) (with_stage service (Recovering (record attempt { choice = Some choice })) a)
+
 -- a choice is made or changed: its line; the own checkpoint is installed at once, another is asked for its first part
 unfoldable pub chooses : Config → Service → Attempt → NodeId × List (RingId × ℕ) → Acting → Acting
 chooses config service attempt best a =
-    let choice = record { tuple = best.1; from = best.0; bytes = [] } in
-    let chosen = with_stage service (Recovering (record attempt { choice = Some choice }))
-        (prints (Chose a.view.id (epoch_of a.view) attempt.number (instances best.1) best.0 ∷ []) a) in
-    if best.0.0 == a.view.id.0 then installs_own config service a.view.checks.newest chosen
-    else sends_all (asks_part a.view attempt choice) chosen
+    gathers config service attempt (record { tuple = best.1; from = best.0; bytes = [] })
+    (prints (Chose a.view.id (epoch_of a.view) attempt.number (instances best.1) best.0 ∷ []) a)
 
 abbrev pub chooses_best : Config → Service → Attempt → List (NodeId × List (RingId × ℕ)) → Acting → Acting
 chooses_best config service attempt [] a = with_stage service (Recovering attempt) a

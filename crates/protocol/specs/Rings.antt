@@ -119,14 +119,22 @@ abbrev pub is_beyond : Body → Bool
 is_beyond (Fetch ring lo) = nat_le END lo
 is_beyond other = false
 
+-- a frame from one node to another
+abbrev pub sent_by : NodeId → NodeId → Body → Sent
+sent_by own to body = record { to = Node to; frame = record { from = Node own; body = body } }
+
 -- a frame of the own node
 abbrev pub sent : Ring → NodeId → Body → Sent
-sent ring to body = record { to = Node to; frame = record { from = Node ring.own; body = body } }
+sent ring to body = sent_by ring.own to body
 
--- A frame to a node: none where there is no such node, none to the node itself, and no Fetch for the end of all instances.
+-- A frame to a node: none to the node itself, and no Fetch for the end of all instances.
+abbrev pub sends_to : NodeId → NodeId → Body → List Sent
+sends_to own to body = if to.0 == own.0 || is_beyond body then [] else sent_by own to body ∷ []
+
+-- none where there is no such node
 abbrev pub sends : Ring → Option NodeId → Body → List Sent
 sends ring None body = []
-sends ring (Some to) body = if is_own ring to || is_beyond body then [] else sent ring to body ∷ []
+sends ring (Some to) body = sends_to ring.own to body
 
 -- the same frame to several nodes in turn
 abbrev pub sends_each : Ring → List NodeId → Body → List Sent

@@ -19,10 +19,10 @@ use Rattle.ring_link.specs.Silence.{with_heard}
 use Rattle.checkpoint.specs.Checks.{Checkpoint}
 use Rattle.protocol.specs.Parts.{Ring, Part, Did, Learner}
 use Rattle.protocol.specs.Rings.{is_acceptor, sends_to}
-use Rattle.protocol.specs.Acceptor.{prepares, accepts, fetches, trimmed}
+use Rattle.protocol.specs.Acceptor.{prepares, accepts, fetches}
 use Rattle.protocol.specs.Coordinator.{leads, promised, refused, submits}
 use Rattle.protocol.specs.Learner.{decided, chosen, with_base}
-use Rattle.protocol.specs.Trimming.{answers}
+use Rattle.protocol.specs.Trimming.{trimmed, answers}
 use Rattle.protocol.specs.Node.{Acting, View, RingPart, Service, Stage, Recovering, Ready, Standing, Attempt, Event, Ticks, Takes, Leads, Stepped, begun_with, finished, part_at, with_view, sends_all}
 use Rattle.protocol.specs.Merging.{place_of, value_at_place}
 use Rattle.protocol.specs.Recovery.{begins, answered_by, takes_part, takes_gone, tells_checkpoint, tells_part, safe_of}
