@@ -14,6 +14,7 @@ use Rattle.gate_log.specs.Journal.{renew_calls}
 use Rattle.command_codec.specs.declared.fault.CodecFault.{CodecFault}
 use Rattle.command_codec.specs.declared.fault.CodecFault.TheVariants.{Short, BadKind, BadField, TooLong, Left, Memory}
 use Rattle.command_codec.specs.Reader.{Reader, number_at, bytes_at, follow, both, shown}
+use Rattle.frames.specs.Spelling.{tuple_bytes}
 use Rattle.frames.specs.Grammar.{tuple_at, all_of, part_of as part_size}
 use Rattle.checkpoint.specs.Spelling.{checkpoint_body}
 
@@ -103,6 +104,16 @@ tuple_of_newest (Some newest) = Some newest.tuple
 -- the tuple of the newest checkpoint, where there is one
 abbrev pub newest_tuple : Checks → Option (List (RingId × ℕ))
 newest_tuple checks = tuple_of_newest checks.newest
+
+-- the positions at which the tuple and the state of the checkpoint in an area begin
+abbrev pub places_in : Option Area → Option Checkpoint → Option (Area × ℕ × ℕ)
+places_in None newest = None
+places_in (Some area) None = None
+places_in (Some area) (Some newest) = Some (area, 16, 24 + length (tuple_bytes newest.tuple))
+
+-- the area that stands, and where its tuple and its state begin
+abbrev pub place : Checks → Option (Area × ℕ × ℕ)
+place checks = places_in checks.area checks.newest
 
 -- whether two tuples have the same instances, ring by ring; the rings are taken to be the same
 abbrev pub is_same_tuple : List (RingId × ℕ) → List (RingId × ℕ) → Bool

@@ -3,7 +3,7 @@
 ghost use Rattle.std.specs.Prelude.{◌≡◌, [], ◌∷◌, Ok, Err, Some, None};
 ghost use Rattle.disk_model.specs.Calls.{reads};
 ghost use Rattle.disk_model.specs.declared.area.Area.TheVariants.{Check2, Check3};
-ghost use Rattle.checkpoint.specs.Checks.{checks_in, no_checks, saved, part_of, Part, Gone, Unknown};
+ghost use Rattle.checkpoint.specs.Checks.{checks_in, no_checks, saved, place, part_of, Part, Gone, Unknown};
 ghost use Rattle.checkpoint.specs.Rows.{with_checks, early, later, state, saved_once, once, twice, first_area, second_area, bad_ring, state_missing, one_over};
 
 /// Two saves on a fresh pair: the first area first, then the second with the next generation.
@@ -17,6 +17,12 @@ pub fn stand()
     ensures fresh { checks_in (with_checks [] []) ≡ Ok no_checks }
     ensures first { checks_in (with_checks first_area []) ≡ Ok saved_once }
     ensures both { checks_in (with_checks first_area second_area) ≡ Ok (saved saved_once later []) }
+{}
+
+/// Where the tuple and the state of the newest checkpoint begin.
+pub fn places()
+    ensures none { place no_checks ≡ None }
+    ensures newest { place saved_once ≡ Some (Check2, 16, 43) }
 {}
 
 /// A ring that can't be there, a state of which a byte is missing, and a byte left over.

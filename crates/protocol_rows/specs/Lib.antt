@@ -1,3 +1,16 @@
 pub mod Words
 pub mod Three_nodes
-pub mod Empty_schedule
+pub mod No_event
+pub mod One_command
+pub mod One_state
+pub mod Delivered_again
+pub mod Stopped_vote
+pub mod Two_leaders
+pub mod Late_answers
+pub mod No_quorum
+pub mod Last_answer
+pub mod Checkpoint_of_another
+pub mod Fetched
+pub mod Two_rings
+pub mod Levelled
+pub mod Trim_round

@@ -1,11 +1,10 @@
 -- The disk of a node: what its calls do to it, and where they fail.
-use Rattle.std.specs.Prelude.{ℕ, Bool, true, false, if◌then◌else◌, List, [], ◌∷◌, map, Option, Some, None, Result, Ok, Err}
+use Rattle.std.specs.Prelude.{ℕ, Bool, true, false, if◌then◌else◌, List, [], ◌∷◌, Some, Result, Ok, Err}
 use Rattle.disk_model.specs.declared.area.Image.{Image}
 use Rattle.disk_model.specs.declared.area.Refused.{Refused}
 use Rattle.disk_model.specs.declared.area.Refused.TheVariants.{Failed}
 use Rattle.disk_model.specs.declared.call.Call.{Call}
 use Rattle.disk_model.specs.declared.plan.Plan.{Plan}
-use Rattle.disk_model.specs.declared.plan.Trouble.{Trouble}
 use Rattle.disk_model.specs.Calls.{Told, begun, reads}
 use Rattle.disk_model.specs.Causes.{falls_on_change, falls_on_read, no_trouble}
 use Rattle.disk_model.specs.Crash.{left_by}

@@ -1,10 +1,9 @@
 -- The opening of a node on its areas: the device calls in order, and what they find.
-use Rattle.std.specs.Prelude.{ℕ, ◌+◌, ◌-◌, ◌^◌, ◌/◌, ◌==◌, nat_lt, if◌then◌else◌, List, [], ◌∷◌, ◌++◌, length, map, replicate, Option, Some, None, Result, Ok, Err}
+use Rattle.std.specs.Prelude.{ℕ, ◌+◌, ◌/◌, nat_lt, if◌then◌else◌, List, [], ◌∷◌, ◌++◌, length, map, replicate, Option, Some, None, Result, Ok, Err}
 use Rattle.mrp_types.specs.declared.id.NodeId.{NodeId}
 use Rattle.disk_model.specs.declared.area.Area.{Area}
 use Rattle.disk_model.specs.declared.area.Area.TheVariants.{Journal0}
 use Rattle.disk_model.specs.declared.areas.Areas.{Areas}
-use Rattle.disk_model.specs.declared.call.Call.{Call}
 use Rattle.disk_model.specs.declared.call.Call.TheVariants.{Sync}
 use Rattle.disk_model.specs.Areas.{bytes_of}
 use Rattle.disk_model.specs.Calls.{begun}
@@ -12,11 +11,18 @@ use Rattle.gate_area.specs.declared.pair.Pair.TheVariants.{Journal as JournalPai
 use Rattle.gate_area.specs.Standing.{stands}
 use Rattle.gate_log.specs.Records.{walk_of}
 use Rattle.gate_log.specs.Journal.{Log, log_of, append_calls, appended, begin_calls}
-use Rattle.vote_state.specs.State.{State, taken}
+use Rattle.vote_state.specs.State.{State}
 use Rattle.vote_journal.specs.declared.fault.OpenFault.{OpenFault}
-use Rattle.vote_journal.specs.Journal.{Journal, state_of, next_epoch, opened_state, epoch_record}
-use Rattle.checkpoint.specs.Checks.{Checks, checks_of}
+use Rattle.vote_journal.specs.Journal.{Journal, state_of, opened_state, epoch_record}
+use Rattle.command_codec.specs.declared.fault.CodecFault.{CodecFault}
+use Rattle.mrp_config.specs.Config.{Config}
+use Rattle.mrp_config.specs.declared.tables.PartitionTable.{PartitionTable}
+use Rattle.plain_model.specs.Replicas.{Replica}
+use Rattle.plain_model.specs.StateBytes.{whole_state}
+use Rattle.plain_model.specs.Tuples.{round_sizes, is_tuple_of}
+use Rattle.checkpoint.specs.Checks.{Checks, Checkpoint, checks_of, place, place_of}
 use Rattle.protocol.specs.Lines.{Cause, Disk, Full}
+use Rattle.protocol.specs.Opening.{partition_of}
 use Rattle.world_model.specs.Disks.{Op, Reads, Does}
 
 -- the device calls of an opening in order, and what they find, or why the node stops where all of them passed
@@ -84,13 +90,37 @@ opened_journal id (Err cause) = record { work = []; result = Err cause }
 
 -- ---- the checkpoint
 
+-- a state that is at fault, by where it begins
+abbrev pub judged_state : Area × ℕ × ℕ → Checks → Result Replica CodecFault → Result Checks (Area × ℕ)
+judged_state place checks (Ok replica) = Ok checks
+judged_state place checks (Err fault) = Err (place.0, place.2 + place_of fault)
+
+abbrev pub judged_newest : Config → PartitionTable → Checks → Option Checkpoint → Option (Area × ℕ × ℕ) → Result Checks (Area × ℕ)
+judged_newest config p checks None place = Ok checks
+judged_newest config p checks (Some newest) None = Ok checks
+judged_newest config p checks (Some newest) (Some place) =
+    if is_tuple_of (round_sizes config) p.rings newest.tuple then judged_state place checks (whole_state p newest.state) else Err (place.0, place.1)
+
+-- A replica's checkpoint is one of its partition: its tuple is a valid one there, and its bytes are a state. A node that is no
+-- replica asks neither.
+abbrev pub judged_for : Config → Option PartitionTable → Checks → Result Checks (Area × ℕ)
+judged_for config None checks = Ok checks
+judged_for config (Some p) checks = judged_newest config p checks checks.newest (place checks)
+
+abbrev pub judged_checks : Config → NodeId → Result Checks (Area × ℕ) → Result Checks (Area × ℕ)
+judged_checks config id (Err spot) = Err spot
+judged_checks config id (Ok checks) = judged_for config (partition_of config.partitions id) checks
+
 abbrev pub found_checks : Result Checks (Area × ℕ) → Result Checks Cause
 found_checks (Ok checks) = Ok checks
 found_checks (Err spot) = Err Disk
 
 -- the survey, and what is read of the area that stands
-abbrev pub opened_checks : Areas → Result (Option (Area × ℕ)) (Area × ℕ) → Opening Checks
-opened_checks areas standing = record { work = survey ++ area_readings areas standing; result = found_checks (checks_of areas standing) }
+abbrev pub opened_checks : Config → NodeId → Areas → Result (Option (Area × ℕ)) (Area × ℕ) → Opening Checks
+opened_checks config id areas standing = record {
+  work = survey ++ area_readings areas standing;
+  result = found_checks (judged_checks config id (checks_of areas standing));
+}
 
 -- ---- both
 
@@ -107,17 +137,17 @@ abbrev pub with_checks_of : List Op → Journal → Opening Checks → Opening K
 with_checks_of before journal checks = record { work = before ++ checks.work; result = kept_of journal checks.result }
 
 -- the checkpoints are looked at where the journal has opened
-abbrev pub then_checks : List Op → Areas → List Op → Result Journal Cause → Opening Kept
-then_checks before areas work (Ok journal) = with_checks_of (before ++ work) journal (opened_checks areas (stands CheckPair areas))
-then_checks before areas work (Err cause) = record { work = before ++ work; result = Err cause }
+abbrev pub then_checks : Config → NodeId → List Op → Areas → List Op → Result Journal Cause → Opening Kept
+then_checks config id before areas work (Ok journal) = with_checks_of (before ++ work) journal (opened_checks config id areas (stands CheckPair areas))
+then_checks config id before areas work (Err cause) = record { work = before ++ work; result = Err cause }
 
-abbrev pub then_opens : Areas → List Op → Opening Journal → Opening Kept
-then_opens areas before journal = then_checks before areas journal.work journal.result
+abbrev pub then_opens : Config → NodeId → Areas → List Op → Opening Journal → Opening Kept
+then_opens config id areas before journal = then_checks config id before areas journal.work journal.result
 
-abbrev pub opening_by : NodeId → ℕ → Areas → Result (Option (Area × ℕ)) (Area × ℕ) → Opening Kept
-opening_by id limit areas standing = then_opens areas (finding_by areas standing) (opened_journal id (found_by limit areas standing))
+abbrev pub opening_by : Config → NodeId → Areas → Result (Option (Area × ℕ)) (Area × ℕ) → Opening Kept
+opening_by config id areas standing = then_opens config id areas (finding_by areas standing) (opened_journal id (found_by config.journal areas standing))
 
 -- The opening of a node on a disk that reads so. First the journal, with the record of its new epoch, and then the
 -- checkpoints.
-unfoldable pub opening : NodeId → ℕ → Areas → Opening Kept
-opening id limit areas = opening_by id limit areas (stands JournalPair areas)
+unfoldable pub opening : Config → NodeId → Areas → Opening Kept
+opening config id areas = opening_by config id areas (stands JournalPair areas)

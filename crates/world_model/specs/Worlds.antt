@@ -1,5 +1,5 @@
 -- The world: nodes on their disks, the frames between them, and their clients; and what happens to it at each event.
-use Rattle.std.specs.Prelude.{ℕ, ◌+◌, min, zero, suc, ◌==◌, if◌then◌else◌, Bool, true, false, List, [], ◌∷◌, ◌++◌, length, map, Option, Some, None, slice_get, Result, Ok, Err}
+use Rattle.std.specs.Prelude.{ℕ, ◌+◌, min, zero, suc, Bool, true, false, List, [], ◌∷◌, ◌++◌, length, map, Option, Some, None, slice_get, Result, Ok, Err}
 use Rattle.std.specs.Ordering.{nat_cmp}
 use Rattle.std.specs.Option.{option_map}
 use Rattle.std.specs.BTreeMap.{is_at, insert_entry}
@@ -7,7 +7,6 @@ use Rattle.std.specs.Map.{lookup}
 use Rattle.std.specs.declared.cmp.Ordering.{Ordering}
 use Rattle.mrp_types.specs.declared.id.NodeId.{NodeId}
 use Rattle.mrp_types.specs.declared.id.ClientId.{ClientId}
-use Rattle.mrp_types.specs.declared.id.RingId.{RingId}
 use Rattle.mrp_types.specs.declared.id.Party.{Party}
 use Rattle.mrp_types.specs.declared.id.Party.TheVariants.{Node, Client}
 use Rattle.mrp_config.specs.Config.{Config}
@@ -19,7 +18,6 @@ use Rattle.frames.specs.declared.sent.Sent.{Sent}
 use Rattle.frames.specs.Spelling.{frame_bytes}
 use Rattle.transcript.specs.declared.line.ShownFrame.{ShownFrame}
 use Rattle.disk_model.specs.declared.area.Image.{Image}
-use Rattle.disk_model.specs.declared.areas.Areas.{Areas}
 use Rattle.disk_model.specs.declared.call.Call.{Call}
 use Rattle.disk_model.specs.declared.plan.Plan.{Plan}
 use Rattle.disk_model.specs.Calls.{Told, reads}
@@ -30,7 +28,7 @@ use Rattle.protocol.specs.Node.{View, Event, Ticks, Takes, Leads, Stepped, calls
 use Rattle.protocol.specs.Opening.{opened}
 use Rattle.protocol.specs.Step.{step}
 use Rattle.protocol.specs.Client.{ClientView, ClientDid, new_client, asks, client_ticks, client_takes}
-use Rattle.world_model.specs.Disks.{Op, Does, Ran, ran, cause_of, settled, no_plan, with_fuse, with_fail, with_fail_read, with_plan, restarted}
+use Rattle.world_model.specs.Disks.{Does, Ran, ran, cause_of, settled, no_plan, with_fuse, with_fail, with_fail_read, with_plan, restarted}
 use Rattle.world_model.specs.Opening.{Opening, Kept, opening}
 use Rattle.world_model.specs.Events.{ScheduleEvent}
 use Rattle.world_model.specs.Events as event
@@ -157,7 +155,7 @@ opens_by config id disk found w = opened_by config id found.result (ran found.wo
 
 -- a node opens on a disk on which nothing is pending
 abbrev pub opens : Config → NodeId → Sim → World → Outcome
-opens config id disk w = opens_by config id disk (opening id config.journal (reads disk.told)) w
+opens config id disk w = opens_by config id disk (opening config id (reads disk.told)) w
 
 -- ---- frames
 
