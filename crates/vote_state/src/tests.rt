@@ -4,7 +4,7 @@ ghost use Rattle.mrp_types.specs.declared.value.Value.TheVariants.{Skip};
 ghost use Rattle.vote_state.specs.Valid.{IsVoted};
 
 use super::*;
-use mrp_types::{Memory, Payload, RingId, Value};
+use mrp_types::{Memory, Payload, RingId, Value, Voted};
 use std::alloc::Global;
 use std::test::*;
 
