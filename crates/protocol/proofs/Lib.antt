@@ -1,3 +1,5 @@
 pub mod PageLemmas
 pub mod EntryLemmas
 pub mod BallotLemmas
+pub mod CoverLemmas
+pub mod RunLemmas
