@@ -3,3 +3,5 @@ pub mod EntryLemmas
 pub mod BallotLemmas
 pub mod CoverLemmas
 pub mod RunLemmas
+pub mod RoundLemmas
+pub mod RangeLemmas

@@ -1,17 +1,18 @@
 //! What the tables of a ring are good for.
 
-ghost use Rattle.std.specs.Prelude.{◌≡◌, ◌↔◌, ℕ, ◌-◌, ◌<◌, max, List, false, true};
+ghost use Rattle.std.specs.Prelude.{◌≡◌, ◌↔◌, ℕ, ◌-◌, ◌<◌, max, List, Some, false};
 ghost use Rattle.mrp_types.specs.declared.value.Value.{Value};
 ghost use Rattle.mrp_types.specs.declared.voted.Voted.{Voted};
 ghost use Rattle.mrp_types.specs.declared.voted.Decided.{Decided};
 ghost use Rattle.range_map.specs.Entries.{IsIncreasingFrom, IsNextGap};
 ghost use Rattle.vote_state.specs.declared.cast.Cast.{Cast};
 ghost use Rattle.frames.specs.Spelling.{vote_size, decided_size};
-ghost use Rattle.protocol.specs.Parts.{Ring, Pending, Campaign, Learner};
+ghost use Rattle.protocol.specs.Parts.{Ring, Pending, Campaign, Learner, Round};
 ghost use Rattle.protocol.specs.Acceptor.{page_room, votes_page, ranges_page};
-ghost use Rattle.protocol.specs.Learner.{first_of, with_met, is_news, with_range_learned, first_gap};
+ghost use Rattle.protocol.specs.Learner.{first_of, with_met, is_news, with_range_learned, first_gap, learned_ranges};
 ghost use Rattle.protocol.specs.Coordinator.{higher, unproposed, entry_size, fresh_entries, least_above, covered_to, run_end};
-ghost use Rattle.protocol.specs.Meaning.{IsLongestPrefix, Meets, AreHeld, IsLeastAbove, IsCovered, IsLongestRun};
+ghost use Rattle.protocol.specs.Trimming.{least};
+ghost use Rattle.protocol.specs.Meaning.{IsLongestPrefix, Meets, AreHeld, IsLeastAbove, IsCovered, IsLongestRun, AreMaximal, IsLeastAnswer};
 
 /// The page of a Promise and of a Chosen, and the commands of a fresh batch, are the longest prefix that fits: the next
 /// entry would not.
@@ -51,4 +52,15 @@ pub fn coverage_is_a_majority()
 pub fn runs_of_due_skips_are_longest()
     ensures { (ring : Ring) (campaign : Campaign) (held : List (ℕ × Value)) → IsIncreasingFrom 0 campaign.reports → IsIncreasingFrom 0 held
         → IsLongestRun ring campaign held (run_end ring campaign held) }
+{}
+
+/// What was learned is told in maximal ranges: exactly what is held, and no two neighbours could be joined.
+pub fn learned_ranges_are_maximal()
+    ensures { (held : List (ℕ × Value)) → IsIncreasingFrom 0 held → AreMaximal held (learned_ranges held) }
+{}
+
+/// A round says the least of all its answers once each subscribed partition has its trim quorum of them, where that is above
+/// the trim when it was asked.
+pub fn a_round_says_the_least_answer()
+    ensures { (ring : Ring) (round : Round) (inst : ℕ) → (least ring round ≡ Some inst) ↔ IsLeastAnswer ring round inst }
 {}
