@@ -23,18 +23,22 @@ module _ (n rest : ℕ) (h : rest < n) where
       elim (cases_lt rest r) [
         | inr le ↦
             let away : d ≡ rest - r = far ∙ forward r le in
-            let end : x + d ≡ p * n + rest = omega arith in
-            (ap (λ y. y % n) end ∙ mod-mul-add p n rest h, λ c q is from. elim (cases_lt q p) [
-              | inl less ↦ let more : suc q * n ≤ p * n = mul-le-mul_right n less in absurd (omega arith)
-              | inr most ↦ let more : p * n ≤ q * n = mul-le-mul_right n most in omega arith
-            ])
+            let end : x + d ≡ p * n + rest = omega arith in (
+              ap (λ y. y % n) end ∙ mod-mul-add p n rest h,
+              λ c q is from. elim (cases_lt q p) [
+                | inl less ↦ let more : suc q * n ≤ p * n = mul-le-mul_right n less in absurd (omega arith)
+                | inr most ↦ let more : p * n ≤ q * n = mul-le-mul_right n most in omega arith
+              ],
+            )
         | inl lt ↦
             let away : d ≡ rest + n - r = far ∙ around r lt top in
-            let end : x + d ≡ suc p * n + rest = omega arith in
-            (ap (λ y. y % n) end ∙ mod-mul-add (suc p) n rest h, λ c q is from. elim (cases_lt p q) [
-              | inr most ↦ let more : q * n ≤ p * n = mul-le-mul_right n most in absurd (omega arith)
-              | inl less ↦ let more : suc p * n ≤ q * n = mul-le-mul_right n less in omega arith
-            ])
+            let end : x + d ≡ suc p * n + rest = omega arith in (
+              ap (λ y. y % n) end ∙ mod-mul-add (suc p) n rest h,
+              λ c q is from. elim (cases_lt p q) [
+                | inr most ↦ let more : q * n ≤ p * n = mul-le-mul_right n most in absurd (omega arith)
+                | inl less ↦ let more : suc p * n ≤ q * n = mul-le-mul_right n less in omega arith
+              ],
+            )
       ]
 
 pub is_least : (floor n rest : ℕ) → rest < n → IsLeastAbove floor n rest (least_above floor n rest)

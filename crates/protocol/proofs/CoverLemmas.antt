@@ -1,5 +1,5 @@
 -- How far a majority is covered.
-use Rattle.std.proofs.Common.{◌≡◌, ℕ, suc, ◌+◌, ◌/◌, ◌<◌, ◌≤◌, max, true, false, Bool, List, [], ◌∷◌, length, refl, sym, ◌∙◌, ap, subst, arith, inl, inr}
+use Rattle.std.proofs.Common.{◌≡◌, ℕ, ◌<◌, ◌≤◌, max, true, false, Bool, List, [], ◌∷◌, length, refl, sym, ◌∙◌, subst, arith, inl, inr}
 use Rattle.std.specs.Prelude.{◌⊎◌, ◌↔◌, nat_le, nat_lt, filter, count_by, if◌then◌else◌}
 use Rattle.std.specs.List.{AllByRecursion}
 use Rattle.std.proofs.lemmas.Bool.{cases_lt}
@@ -9,7 +9,7 @@ use Rattle.range_map.proofs.SetLemmas.{le-true, le-false}
 use Rattle.protocol.specs.Parts.{Ring}
 use Rattle.protocol.specs.Rings.{majority_of}
 use Rattle.protocol.specs.Coordinator.{reached_by, covered_to}
-use Rattle.protocol.specs.Meaning.{covered_past, IsCovered}
+use Rattle.protocol.specs.Meaning.{IsCovered}
 
 lt-true : (a b : ℕ) → a < b → nat_lt a b ≡ true
 lt-true a b h = grind (arith, nat_tests)

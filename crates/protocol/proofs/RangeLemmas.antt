@@ -1,15 +1,14 @@
 -- That what was learned is told in maximal ranges: those of votes of one ballot.
-use Rattle.std.proofs.Common.{◌≡◌, ℕ, suc, ◌<◌, ◌≤◌, true, false, Bool, ◌&&◌, List, [], ◌∷◌, map, refl, sym, ◌∙◌, ap, subst, arith, inl, inr}
-use Rattle.std.specs.Prelude.{◌⊎◌, Option, Some, None, nat_eq, nat_le, nat_lt, if◌then◌else◌, option_map}
+use Rattle.std.proofs.Common.{◌≡◌, ℕ, suc, true, false, Bool, ◌&&◌, List, [], ◌∷◌, map, refl, sym, ◌∙◌, ap, subst, inl, inr}
+use Rattle.std.specs.Prelude.{◌⊎◌, Option, Some, None, nat_eq, nat_le, nat_lt, if◌then◌else◌}
 use Rattle.std.specs.List.{AllByRecursion}
 use Rattle.std.proofs.lemmas.Bool.{cases_eq}
 use Rattle.mrp_types.specs.declared.value.Value.{Value}
 use Rattle.mrp_types.specs.declared.voted.Voted.{Voted}
-use Rattle.mrp_types.specs.declared.voted.Decided.{Decided}
 use Rattle.mrp_types.specs.Values.{is_skip}
 use Rattle.range_map.specs.Entries.{value_at, IsIncreasingFrom}
 use Rattle.vote_state.specs.declared.cast.Cast.{Cast}
-use Rattle.vote_state.specs.Ranges.{cast_of, voted, is_one, vote_before, ranges_of, cast_at, AreInOrderFrom, IsApartFrom, AreApart, AreAlone, AreMaximalRanges}
+use Rattle.vote_state.specs.Ranges.{cast_of, voted, is_one, vote_before, ranges_of, cast_at, AreInOrderFrom, IsApartFrom, AreApart, AreAlone}
 use Rattle.vote_state.proofs.MaximalLemmas.{are_maximal}
 use Rattle.protocol.specs.Learner.{unballoted, decided_of, learned_ranges}
 use Rattle.protocol.specs.Meaning.{decided_at, AreInTurnFrom, IsUnjoined, AreUnjoined, AreSingle, AreMaximal}

@@ -1,6 +1,6 @@
 -- What a round of trimming says.
-use Rattle.std.proofs.Common.{◌≡◌, ℕ, ◌+◌, ◌<◌, ◌≤◌, min, true, false, Bool, ◌&&◌, List, [], ◌∷◌, refl, sym, ◌∙◌, ap, subst, arith, inl, inr}
-use Rattle.std.specs.Prelude.{◌⊎◌, ◌↔◌, Option, Some, None, nat_le, nat_lt, if◌then◌else◌}
+use Rattle.std.proofs.Common.{◌≡◌, ℕ, ◌<◌, ◌≤◌, min, true, false, Bool, List, [], ◌∷◌, refl, ◌∙◌, ap, subst, arith, inl, inr}
+use Rattle.std.specs.Prelude.{◌⊎◌, ◌↔◌, Some, None, nat_le, nat_lt, if◌then◌else◌}
 use Rattle.std.specs.List.{AllByRecursion}
 use Rattle.std.proofs.lemmas.Bool.{cases_lt}
 use Rattle.std.proofs.lemmas.Bool.Decides.{nat_tests}
@@ -9,7 +9,7 @@ use Rattle.mrp_types.specs.declared.id.NodeId.{NodeId}
 use Rattle.mrp_config.specs.declared.tables.PartitionTable.{PartitionTable}
 use Rattle.range_map.proofs.SetLemmas.{le-true}
 use Rattle.protocol.specs.Parts.{Ring, Round}
-use Rattle.protocol.specs.Trimming.{answered_of, have_quorums, least_of, above, least_above_last, least_where, is_answered, least}
+use Rattle.protocol.specs.Trimming.{answered_of, have_quorums, least_of, above, least_where, is_answered, least}
 use Rattle.protocol.specs.Meaning.{HaveQuorums, IsGiven, IsLeastAnswer}
 
 abbrev Answers : Type 0
@@ -86,9 +86,13 @@ module _ (ring : Ring) (round : Round) (inst : ℕ) where
       let at = above_there (least_of answer.1 answers) h in
       let are = is_least_of answer.1 answers in
       let low = are.below in
-      let same = at.0 in
-      ((λ none. cc), quorums_there (p ∷ partitions) (answer ∷ answers) is, subst (λ x. (answer.1 ≡ x) ⊎ IsGiven x answers) same are.given,
-      subst (λ x. AllByRecursion (λ (a : NodeId × ℕ). x ≤ a.1) (answer ∷ answers)) same (low, are.least), at.1)
+      let same = at.0 in (
+        (λ none. cc),
+        quorums_there (p ∷ partitions) (answer ∷ answers) is,
+        subst (λ x. (answer.1 ≡ x) ⊎ IsGiven x answers) same are.given,
+        subst (λ x. AllByRecursion (λ (a : NodeId × ℕ). x ≤ a.1) (answer ∷ answers)) same (low, are.least),
+        at.1,
+      )
 
   back : (subscribers : List PartitionTable) (answers : Answers) → (subscribers ≡ [] → ⊥) → HaveQuorums subscribers answers → IsGiven inst answers
       → AllByRecursion (λ (answer : NodeId × ℕ). inst ≤ answer.1) answers → round.last < inst → least_where (is_answered subscribers answers) round.last answers ≡ Some inst

@@ -1,6 +1,6 @@
 -- Runs of due Skips.
-use Rattle.std.proofs.Common.{◌≡◌, ℕ, suc, ◌+◌, ◌<◌, ◌≤◌, min, max, true, false, Bool, ◌&&◌, ◌||◌, List, [], ◌∷◌, refl, sym, ◌∙◌, ap, subst, arith, inl, inr}
-use Rattle.std.specs.Prelude.{◌⊎◌, ◌↔◌, Option, Some, None, IsSome, not, nat_eq, nat_le, nat_lt, if◌then◌else◌}
+use Rattle.std.proofs.Common.{◌≡◌, ℕ, suc, ◌+◌, ◌<◌, ◌≤◌, min, true, false, Bool, ◌||◌, List, [], ◌∷◌, refl, sym, ◌∙◌, ap, subst, arith, inl, inr}
+use Rattle.std.specs.Prelude.{◌⊎◌, Option, Some, None, IsSome, not, nat_lt}
 use Rattle.std.proofs.lemmas.Bool.{cases_lt, cases_eq}
 use Rattle.std.proofs.lemmas.Bool.Decides.{nat_tests}
 use Rattle.mrp_types.specs.declared.value.Value.{Value}
@@ -11,8 +11,8 @@ use Rattle.range_map.proofs.SetLemmas.{le-true, le-false}
 use Rattle.range_map.proofs.EntryLemmas.{none_below}
 use Rattle.vote_state.specs.declared.cast.Cast.{Cast}
 use Rattle.protocol.specs.Parts.{Ring, Campaign}
-use Rattle.protocol.specs.Coordinator.{covered_to, leads_now, reported_to, due_by, due_at, first_where, is_batch, is_any, gaps_to, run_within, run_end}
-use Rattle.protocol.specs.Meaning.{IsCovered, IsDueSkip, IsLongestRun}
+use Rattle.protocol.specs.Coordinator.{covered_to, leads_now, reported_to, due_by, first_where, is_batch, is_any, gaps_to, run_end}
+use Rattle.protocol.specs.Meaning.{IsDueSkip, IsLongestRun}
 use Rattle.protocol.proofs.EntryLemmas.{value_here, value_later}
 use Rattle.protocol.proofs.CoverLemmas.{covers}
 
