@@ -14,7 +14,7 @@ use Rattle.protocol.specs.Meaning.{Meets, AreHeld}
 eq-true : (a b : ℕ) → a ≡ b → nat_eq a b ≡ true
 eq-true a b h = grind (arith, nat_tests)
 
-eq-false : (a b : ℕ) → (a ≡ b → ⊥) → nat_eq a b ≡ false
+pub eq-false : (a b : ℕ) → (a ≡ b → ⊥) → nat_eq a b ≡ false
 eq-false a b h = grind (arith, nat_tests)
 
 eq-from : (a b : ℕ) → nat_eq a b ≡ true → a ≡ b

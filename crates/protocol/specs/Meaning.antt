@@ -9,7 +9,7 @@ use Rattle.mrp_types.specs.Values.{is_skip}
 use Rattle.range_map.specs.Entries.{value_at, IsIncreasingFrom}
 use Rattle.mrp_config.specs.declared.tables.PartitionTable.{PartitionTable}
 use Rattle.protocol.specs.Parts.{Ring, Campaign, Round}
-use Rattle.protocol.specs.Rings.{majority_of}
+use Rattle.protocol.specs.Rings.{acceptor_at, owner_of, majority_of}
 use Rattle.protocol.specs.Acceptor.{left_out}
 use Rattle.protocol.specs.Coordinator.{due_at}
 use Rattle.protocol.specs.Trimming.{answered_of}
@@ -47,6 +47,16 @@ pub record IsLeastAbove (floor n rest number : ℕ) : Type 0 where
   pub above : floor < number
   pub leaves : number % n ≡ rest
   pub least : (other : ℕ) → floor < other → other % n ≡ rest → number ≤ other
+
+-- the own node has one position alone
+abbrev pub HasOnePosition : Ring → Type 0
+HasOnePosition ring = (i j : ℕ) → acceptor_at ring i ≡ Some ring.own → acceptor_at ring j ≡ Some ring.own → i ≡ j
+
+-- the least ballot above a floor that the own node owns
+pub record IsLeastOwned (ring : Ring) (floor ballot : ℕ) : Type 0 where
+  pub above : floor < ballot
+  pub owned : owner_of ring ballot ≡ Some ring.own
+  pub least : (other : ℕ) → floor < other → owner_of ring other ≡ Some ring.own → ballot ≤ other
 
 -- ---- coverage
 

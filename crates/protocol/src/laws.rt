@@ -7,12 +7,13 @@ ghost use Rattle.mrp_types.specs.declared.voted.Decided.{Decided};
 ghost use Rattle.range_map.specs.Entries.{IsIncreasingFrom, IsNextGap};
 ghost use Rattle.vote_state.specs.declared.cast.Cast.{Cast};
 ghost use Rattle.frames.specs.Spelling.{vote_size, decided_size};
-ghost use Rattle.protocol.specs.Parts.{Ring, Pending, Campaign, Learner, Round};
+ghost use Rattle.protocol.specs.Parts.{Ring, Pending, Campaign, Learner, Round, Part};
+ghost use Rattle.protocol.specs.Rings.{position_of};
 ghost use Rattle.protocol.specs.Acceptor.{page_room, votes_page, ranges_page};
 ghost use Rattle.protocol.specs.Learner.{first_of, with_met, is_news, with_range_learned, first_gap, learned_ranges};
-ghost use Rattle.protocol.specs.Coordinator.{higher, unproposed, entry_size, fresh_entries, least_above, covered_to, run_end};
+ghost use Rattle.protocol.specs.Coordinator.{higher, unproposed, entry_size, fresh_entries, least_above, greatest_seen, own_ballot, covered_to, run_end};
 ghost use Rattle.protocol.specs.Trimming.{least};
-ghost use Rattle.protocol.specs.Meaning.{IsLongestPrefix, Meets, AreHeld, IsLeastAbove, IsCovered, IsLongestRun, AreMaximal, IsLeastAnswer};
+ghost use Rattle.protocol.specs.Meaning.{IsLongestPrefix, Meets, AreHeld, IsLeastAbove, HasOnePosition, IsLeastOwned, IsCovered, IsLongestRun, AreMaximal, IsLeastAnswer};
 
 /// The page of a Promise and of a Chosen, and the commands of a fresh batch, are the longest prefix that fits: the next
 /// entry would not.
@@ -39,7 +40,9 @@ pub fn the_higher_vote_stands()
 
 /// The ballot of a start is the least above what was seen that the node owns.
 pub fn a_start_takes_the_least_ballot()
-    ensures { (floor n rest : ℕ) → rest < n → IsLeastAbove floor n rest (least_above floor n rest) }
+    ensures rest { (floor n rest : ℕ) → rest < n → IsLeastAbove floor n rest (least_above floor n rest) }
+    ensures owned { (ring : Ring) (part : Part) (position : ℕ) → position_of ring ring.own ≡ Some position → HasOnePosition ring
+        → IsLeastOwned ring (greatest_seen part) (own_ballot ring part position) }
 {}
 
 /// Up to where a majority is covered: past each instance below, and past no other.
