@@ -1,6 +1,6 @@
 -- What entries hold once a range was met, whether a range is held, and the first gap.
-use Rattle.std.proofs.Common.{◌≡◌, ℕ, zero, suc, ◌+◌, ◌-◌, ◌<◌, ◌≤◌, max, true, false, Bool, ◌&&◌, List, [], ◌∷◌, ◌++◌, refl, sym, ◌∙◌, ap, subst, arith, inl, inr, append_assoc}
-use Rattle.std.specs.Prelude.{◌⊎◌, ◌↔◌, Option, Some, None, IsSome, nat_eq, nat_le, nat_lt, if◌then◌else◌}
+use Rattle.std.proofs.Common.{◌≡◌, ℕ, zero, suc, ◌+◌, ◌-◌, ◌<◌, ◌≤◌, max, true, false, List, [], ◌∷◌, ◌++◌, refl, sym, ◌∙◌, ap, subst, arith, inl, inr, append_assoc}
+use Rattle.std.specs.Prelude.{◌↔◌, Option, Some, None, IsSome, nat_eq, nat_lt, if◌then◌else◌}
 use Rattle.std.proofs.lemmas.Bool.{cases_lt, cases_eq}
 use Rattle.std.proofs.lemmas.Bool.Decides.{nat_tests}
 use Rattle.std.proofs.lemmas.Map.Entries.{lookup-filter-keys}
@@ -14,7 +14,7 @@ use Rattle.protocol.specs.Meaning.{Meets, AreHeld}
 eq-true : (a b : ℕ) → a ≡ b → nat_eq a b ≡ true
 eq-true a b h = grind (arith, nat_tests)
 
-eq-false : (a b : ℕ) → (a ≡ b → ⊥) → nat_eq a b ≡ false
+pub eq-false : (a b : ℕ) → (a ≡ b → ⊥) → nat_eq a b ≡ false
 eq-false a b h = grind (arith, nat_tests)
 
 eq-from : (a b : ℕ) → nat_eq a b ≡ true → a ≡ b

@@ -1,9 +1,9 @@
 -- That a page is the longest prefix that fits.
-use Rattle.std.proofs.Common.{◌≡◌, ℕ, ◌+◌, ◌-◌, ◌<◌, ◌≤◌, List, [], ◌∷◌, ◌++◌, length, drop, refl, ap, arith, inl, inr}
+use Rattle.std.proofs.Common.{◌≡◌, ℕ, ◌-◌, ◌<◌, ◌≤◌, List, [], ◌∷◌, refl, ap, arith, inl, inr}
 use Rattle.std.proofs.lemmas.Bool.{cases_lt}
 use Rattle.range_map.proofs.SetLemmas.{le-true, le-false}
-use Rattle.protocol.specs.Acceptor.{page_of, left_out}
-use Rattle.protocol.specs.Meaning.{bytes_of, IsLongestPrefix}
+use Rattle.protocol.specs.Acceptor.{page_of}
+use Rattle.protocol.specs.Meaning.{IsLongestPrefix}
 
 module _ {T : Type 0} (size : T → ℕ) where
   one_more : (room : ℕ) (x : T) (xs page : List T) → size x ≤ room → IsLongestPrefix size (room - size x) xs page → IsLongestPrefix size room (x ∷ xs) (x ∷ page)

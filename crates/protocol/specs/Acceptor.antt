@@ -1,5 +1,5 @@
 -- The acceptor's table: promises, votes and trims, and the pages that it sends.
-use Rattle.std.specs.Prelude.{ℕ, ◌+◌, ◌-◌, ◌==◌, nat_lt, nat_le, not, max, count_ones, Bool, if◌then◌else◌, List, [], ◌∷◌, length, drop, Option, Some, None}
+use Rattle.std.specs.Prelude.{ℕ, ◌-◌, ◌==◌, nat_lt, nat_le, not, max, count_ones, if◌then◌else◌, List, [], ◌∷◌, length, drop, Option, Some, None}
 use Rattle.mrp_types.specs.declared.id.NodeId.{NodeId}
 use Rattle.mrp_types.specs.declared.id.TheConstants.{END}
 use Rattle.mrp_types.specs.declared.value.Value.{Value}
@@ -15,7 +15,7 @@ use Rattle.frames.specs.Spelling.{vote_size, decided_size}
 use Rattle.frames.specs.declared.body.Body.{Body}
 use Rattle.frames.specs.declared.body.Body.TheVariants.{Promise, Refuse, Accept, Decide, Chosen, Trimmed}
 use Rattle.frames.specs.declared.sent.Sent.{Sent}
-use Rattle.protocol.specs.Parts.{Ring, Campaign, Role, Idle, Active, Part, Did}
+use Rattle.protocol.specs.Parts.{Ring, Role, Idle, Active, Part, Did}
 use Rattle.protocol.specs.Rings.{is_node, owner_of, position_of, majority_of, has_bit, with_bit, next_acceptor, next_member, sends}
 use Rattle.protocol.specs.Doing.{with_kept, with_role, nothing_done, with_change, with_frames, with_learned}
 use Rattle.protocol.specs.Learner.{learned_ranges, without_finished}

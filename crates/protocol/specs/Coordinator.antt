@@ -1,5 +1,5 @@
 -- The coordinator's table: starting a ballot, gathering promises, proposing, submitting, and its part of a tick.
-use Rattle.std.specs.Prelude.{ℕ, zero, suc, ◌+◌, ◌-◌, ◌%◌, ◌^◌, ◌==◌, nat_lt, nat_le, not, ◌&&◌, ◌||◌, min, max, Bool, true, false, if◌then◌else◌, List, [], ◌∷◌, ◌++◌, length, map, filter, flat_map, count_by, slice_index, slice_set, Option, Some, None}
+use Rattle.std.specs.Prelude.{ℕ, zero, suc, ◌+◌, ◌-◌, ◌%◌, ◌^◌, ◌==◌, nat_lt, nat_le, not, ◌&&◌, ◌||◌, min, max, Bool, true, false, if◌then◌else◌, List, [], ◌∷◌, ◌++◌, length, map, count_by, slice_index, slice_set, Option, Some, None}
 use Rattle.std.specs.List.{before_first}
 use Rattle.mrp_types.specs.declared.id.NodeId.{NodeId}
 use Rattle.mrp_types.specs.declared.id.ClientId.{ClientId}
@@ -22,7 +22,7 @@ use Rattle.frames.specs.declared.sent.Sent.{Sent}
 use Rattle.protocol.specs.Lines.{BallotLimit, InstanceLimit}
 use Rattle.protocol.specs.Parts.{Ring, Pending, Campaign, Role, Idle, Active, Coordinator, Part, Did}
 use Rattle.protocol.specs.Rings.{is_node, is_own, other_acceptors, position_of, owner_of, majority_of, bit_of, next_acceptor, sends, sends_each}
-use Rattle.protocol.specs.Doing.{with_coordinator, with_role, with_campaign, nothing_done, with_part, with_frames, with_line}
+use Rattle.protocol.specs.Doing.{with_coordinator, with_campaign, nothing_done, with_part, with_frames, with_line}
 use Rattle.protocol.specs.Learner.{with_met, first_gap, is_same_command}
 use Rattle.protocol.specs.Acceptor.{promises, votes_for, trims_to, page_of, goes_on}
 
@@ -90,23 +90,9 @@ campaigns ring ballot did =
     with_frames (sends_each ring (other_acceptors ring) (Prepare ring.id ballot did.part.kept.trim))
     (with_part (with_campaign (new_campaign ring ballot did.part.kept) did.part) did)
 
--- a ballot from 2 ^ 48 on isn't started
-abbrev pub starts_with : Ring → Part → ℕ → Did
-starts_with ring part ballot =
-    if nat_le (2 ^ 48) ballot then with_line (BallotLimit ring.own ring.id) (nothing_done part)
-    else campaigns ring ballot (promises ring ballot (nothing_done part))
-
 -- the least ballot above promise and top that the node owns
 abbrev pub own_ballot : Ring → Part → ℕ → ℕ
 own_ballot ring part position = least_above (greatest_seen part) (length ring.acceptors) position
-
-abbrev pub starts_at : Ring → Part → Option ℕ → Did
-starts_at ring part None = nothing_done part
-starts_at ring part (Some position) = starts_with ring part (own_ballot ring part position)
-
--- Start: whether the coordinator is Idle or Active
-unfoldable pub starts : Ring → Part → Did
-starts ring part = starts_at ring part (position_of ring ring.own)
 
 -- ---- reports
 
@@ -336,9 +322,19 @@ proposes ring link part = proposes_after ring link (nothing_done part)
 
 -- ---- what comes to a coordinator
 
--- Lead at an acceptor: a Start, then proposing
+-- a ballot from 2 ^ 48 on isn't started, and nothing else happens
+abbrev pub starts_with : Ring → Link → Part → ℕ → Did
+starts_with ring link part ballot =
+    if nat_le (2 ^ 48) ballot then with_line (BallotLimit ring.own ring.id) (nothing_done part)
+    else proposes_after ring link (campaigns ring ballot (promises ring ballot (nothing_done part)))
+
+abbrev pub starts_at : Ring → Link → Part → Option ℕ → Did
+starts_at ring link part None = nothing_done part
+starts_at ring link part (Some position) = starts_with ring link part (own_ballot ring part position)
+
+-- Lead at an acceptor, whether its coordinator is Idle or Active: a Start, then proposing
 unfoldable pub leads : Ring → Link → Part → Did
-leads ring link part = proposes_after ring link (starts ring part)
+leads ring link part = starts_at ring link part (position_of ring ring.own)
 
 -- Promise: its trim is taken in any case, then its votes are reported, then proposing
 unfoldable pub promised : Ring → Link → Part → NodeId → ℕ → ℕ → ℕ → ℕ → List Voted → Did

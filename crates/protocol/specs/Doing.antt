@@ -1,5 +1,5 @@
 -- What a rule makes, put together piece by piece: each word adds to what was made before it.
-use Rattle.std.specs.Prelude.{ℕ, List, [], ◌∷◌, ◌++◌}
+use Rattle.std.specs.Prelude.{List, [], ◌∷◌, ◌++◌}
 use Rattle.mrp_types.specs.declared.voted.Decided.{Decided}
 use Rattle.vote_state.specs.declared.ring.RingState.{RingState}
 use Rattle.vote_state.specs.declared.change.Change.{Change}

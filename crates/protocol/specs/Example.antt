@@ -9,7 +9,7 @@ use Rattle.command_codec.specs.Spelling.{batch_bytes}
 use Rattle.mrp_config.specs.declared.tables.PartitionTable.{PartitionTable}
 use Rattle.ring_link.specs.Silence.{Link}
 use Rattle.vote_state.specs.State.{no_votes}
-use Rattle.protocol.specs.Parts.{Ring, Round, Part, Did}
+use Rattle.protocol.specs.Parts.{Ring, Part, Did}
 use Rattle.protocol.specs.Doing.{with_rounds}
 use Rattle.protocol.specs.Learner.{new_part}
 use Rattle.protocol.specs.Acceptor.{prepares, accepts}

@@ -1,5 +1,5 @@
 -- Learning: what a member holds of what was decided.
-use Rattle.std.specs.Prelude.{ℕ, zero, suc, ◌+◌, ◌-◌, ◌==◌, nat_lt, nat_le, not, ◌&&◌, ◌||◌, min, max, Bool, true, false, if◌then◌else◌, List, [], ◌∷◌, ◌++◌, filter, map, Option, Some, None, Result, Ok, Err}
+use Rattle.std.specs.Prelude.{ℕ, zero, suc, ◌-◌, ◌==◌, not, ◌&&◌, ◌||◌, min, max, Bool, true, false, if◌then◌else◌, List, [], ◌∷◌, ◌++◌, filter, map, Option, Some, None, Result, Ok, Err}
 use Rattle.mrp_types.specs.declared.value.Value.{Value}
 use Rattle.mrp_types.specs.declared.value.Value.TheVariants.{Skip, Batch}
 use Rattle.mrp_types.specs.declared.value.Entry.{Entry}
@@ -13,7 +13,7 @@ use Rattle.vote_state.specs.declared.ring.RingState.{RingState}
 use Rattle.vote_state.specs.Ranges.{ranges_of}
 use Rattle.ring_link.specs.Silence.{Link}
 use Rattle.frames.specs.declared.body.Body.TheVariants.{Decide}
-use Rattle.protocol.specs.Parts.{Ring, Pending, Campaign, Role, Idle, Active, Coordinator, Learner, Part, Did}
+use Rattle.protocol.specs.Parts.{Ring, Pending, Role, Idle, Active, Coordinator, Learner, Part, Did}
 use Rattle.protocol.specs.Rings.{is_acceptor, next_member, sends}
 use Rattle.protocol.specs.Doing.{with_learner, with_role, nothing_done, with_frames, with_learned}
 

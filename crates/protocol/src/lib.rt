@@ -7,7 +7,9 @@ mod laws;
 mod rows;
 
 pub use laws::{
-    a_start_takes_the_least_ballot, pages_are_longest_prefixes, the_first_value_stays, the_higher_vote_stands,
+    a_round_says_the_least_answer, a_start_takes_the_least_ballot, coverage_is_a_majority,
+    learned_ranges_are_maximal, pages_are_longest_prefixes, runs_of_due_skips_are_longest,
+    the_first_value_stays, the_higher_vote_stands,
 };
 pub use rows::{
     a_gap_is_skipped, a_lower_ballot_is_refused, a_majority_decides, a_promise_tells_votes,

@@ -1,6 +1,5 @@
 use Rattle.std.proofs.Common.{◌≡◌, max, true, false, refl}
 use Rattle.std.specs.Prelude.{Bool, not}
-use Rattle.mrp_types.specs.declared.value.Value.{Value}
 use Rattle.protocol.specs.Learner.{first_of, is_held}
 use Rattle.protocol.proofs.EntryLemmas.{meets, held, gap}
 use Rattle.protocol.proofs.laws.the_first_value_stays.Goals as goal
