@@ -14,3 +14,4 @@ pub mod Fetched
 pub mod Two_rings
 pub mod Levelled
 pub mod Trim_round
+pub mod Trim_frames

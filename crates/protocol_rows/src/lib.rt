@@ -12,5 +12,6 @@ pub mod no_quorum;
 pub mod one_command;
 pub mod one_state;
 pub mod stopped_vote;
+pub mod trim_frames;
 pub mod trim_round;
 pub mod two_leaders;

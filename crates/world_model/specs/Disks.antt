@@ -49,6 +49,12 @@ unfoldable pub ran : List Op → Sim → Ran
 ran [] disk = record { disk = disk; done = true }
 ran (op ∷ ops) disk = by_fault op disk (λ next. ran ops next) (falls_on disk.trouble.plan op)
 
+-- the calls that change the disk, in order
+abbrev pub changes_in : List Op → List Call
+changes_in [] = []
+changes_in (Reads ∷ ops) = changes_in ops
+changes_in (Does call ∷ ops) = call ∷ changes_in ops
+
 -- Why a node stops whose call failed: it crashed where a fuse has stopped the call.
 abbrev pub cause_of : Sim → Cause
 cause_of disk = if disk.trouble.stopped then Crash else Disk
