@@ -1,12 +1,10 @@
 -- Learning: what a member holds of what was decided.
-use Rattle.std.specs.Prelude.{ℕ, zero, suc, ◌-◌, ◌==◌, not, ◌&&◌, ◌||◌, min, max, Bool, true, false, if◌then◌else◌, List, [], ◌∷◌, ◌++◌, filter, map, Option, Some, None, Result, Ok, Err}
+use Rattle.std.specs.Prelude.{ℕ, zero, suc, ◌-◌, ◌==◌, not, ◌&&◌, ◌||◌, min, max, Bool, true, false, if◌then◌else◌, List, [], ◌∷◌, ◌++◌, filter, map, Option, Some, None}
 use Rattle.mrp_types.specs.declared.value.Value.{Value}
-use Rattle.mrp_types.specs.declared.value.Value.TheVariants.{Skip, Batch}
 use Rattle.mrp_types.specs.declared.value.Entry.{Entry}
 use Rattle.mrp_types.specs.declared.voted.Decided.{Decided}
 use Rattle.mrp_types.specs.declared.voted.Voted.{Voted}
-use Rattle.command_codec.specs.declared.fault.CodecFault.{CodecFault}
-use Rattle.command_codec.specs.Grammar.{batch_of}
+use Rattle.plain_model.specs.Fold.{entries_of_value}
 use Rattle.range_map.specs.Entries.{value_at, entries_before, entries_from}
 use Rattle.vote_state.specs.declared.cast.Cast.{Cast}
 use Rattle.vote_state.specs.declared.ring.RingState.{RingState}
@@ -122,15 +120,6 @@ learned_ranges held = map decided_of (ranges_of (map (λ e. (e.0, unballoted e.1
 
 -- ---- what a coordinator lets go when something is learned or trimmed
 
-abbrev pub entries_read : Result (List Entry) CodecFault → List Entry
-entries_read (Ok entries) = entries
-entries_read (Err fault) = []
-
--- the commands that a value holds
-abbrev pub commands_of : Value → List Entry
-commands_of Skip = []
-commands_of (Batch batch) = entries_read (batch_of batch)
-
 -- whether two commands are one: of one client, with one number
 abbrev pub is_same_command : Entry → Entry → Bool
 is_same_command a b = (a.client.0 == b.client.0) && (a.seq == b.seq)
@@ -178,7 +167,7 @@ pub record Taken : Type 0 where
 abbrev pub learns_news : Bool → Part → Decided → Taken
 learns_news false part range = record { part = part; news = false }
 learns_news true part range = record {
-  part = without_finished (without_commands (commands_of range.value) (with_learner (with_range_learned range part.learner) part));
+  part = without_finished (without_commands (entries_of_value range.value) (with_learner (with_range_learned range part.learner) part));
   news = true;
 }
 

@@ -18,6 +18,7 @@ use Rattle.plain_model.specs.Tuples.{round_sizes, first_tuple, is_tuple_of, entr
 use Rattle.protocol.specs.Lines.{Line, Begin, Chose, Restore, Refuse, AttemptLimit}
 use Rattle.protocol.specs.Rings.{by_id, sends_to}
 use Rattle.protocol.specs.Learner.{lowered}
+use Rattle.protocol.specs.Trimming.{has_answered}
 use Rattle.protocol.specs.Node.{Acting, View, RingPart, Service, Stage, Recovering, Ready, Standing, Attempt, Choice, with_stage, prints, sends_all}
 use Rattle.protocol.specs.Merging.{merges}
 
@@ -127,11 +128,6 @@ begins config service a =
     else prints (AttemptLimit a.view.id ∷ []) a
 
 -- ---- answers of others
-
--- the node has answered
-abbrev pub has_answered : NodeId → List (NodeId × List (RingId × ℕ)) → Bool
-has_answered node [] = false
-has_answered node (answer ∷ answers) = if answer.0.0 == node.0 then true else has_answered node answers
 
 -- it names this epoch and this attempt
 abbrev pub is_of : View → Attempt → ℕ → ℕ → Bool

@@ -19,7 +19,7 @@ trimmed ring link part trim = proposes_after ring link (trims_to ring trim (noth
 -- ---- what a round's answers say
 
 -- whether a node has answered
-abbrev pub has_answered : NodeId → List (NodeId × ℕ) → Bool
+abbrev pub has_answered : {T : Type 0} → NodeId → List (NodeId × T) → Bool
 has_answered node [] = false
 has_answered node (answer ∷ answers) = (answer.0.0 == node.0) || has_answered node answers
 

@@ -15,3 +15,9 @@ pub mod Two_rings
 pub mod Levelled
 pub mod Trim_round
 pub mod Trim_frames
+pub mod Small_journal
+pub mod Compacted
+pub mod Compaction_stopped_before
+pub mod Compaction_stopped_after
+pub mod Nine_nodes
+pub mod Ordinary_run
