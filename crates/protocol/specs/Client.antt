@@ -190,9 +190,10 @@ missing config c = missing_for config c.asked
 -- the answer is the replies, joined in the order of their partitions
 abbrev pub answers : ClientView → Asked → ClientDid
 answers c a = record {
-    client = record c { asked = None };
-    frames = [];
-    lines = Answer c.id a.seq (reply_bytes (joined (map (λ (part : PartitionId × Reply). part.1) a.parts))) ∷ [] }
+  client = record c { asked = None };
+  frames = [];
+  lines = Answer c.id a.seq (reply_bytes (joined (map (λ (part : PartitionId × Reply). part.1) a.parts))) ∷ [];
+}
 
 -- once all concerned partitions have replied the client answers
 abbrev pub gathered : Config → ClientView → Asked → ClientDid

@@ -2,3 +2,7 @@
 //!
 //! Definitions and laws alone: each function has an empty body, and its contract is the law.
 #![tactic(auto)]
+
+mod client_rows;
+
+pub use client_rows::{a_busy_client, a_joined_answer, a_scan, an_ask, three_tries, two_commands};
