@@ -103,3 +103,7 @@ count_before m ring place =
 -- the tuple below which are the places of these rings that come before a place
 abbrev pub tuple_at : (ℕ → ℕ) → List RingId → Place → List (RingId × ℕ)
 tuple_at m rings place = map (λ (ring : RingId). (ring, count_before m ring place)) rings
+
+-- the tuple below which are these, and the place itself
+abbrev pub tuple_after : (ℕ → ℕ) → List RingId → Place → List (RingId × ℕ)
+tuple_after m rings place = moved_past (place.ring, place.inst) (tuple_at m rings place)
