@@ -8,6 +8,7 @@
 #![tactic(auto)]
 
 mod rows;
+mod tuple_laws;
 
 ghost use Rattle.std.specs.Prelude.{◌≡◌, ◌++◌, List, ℕ, Some};
 ghost use Rattle.mrp_types.specs.declared.value.Value.{Value};
@@ -21,6 +22,10 @@ pub use rows::{
     a_tuple_at, an_answer, an_append, five_places, its_replies, no_room, no_room_for_values,
     no_states, other_answers, the_fold, the_replies, what_is_left, what_is_not_known,
     what_stands_below, which_are_valid,
+};
+pub use tuple_laws::{
+    moves_keep_tuples_valid, past_adds_the_next_place, past_leaves_the_others,
+    the_next_place_is_an_entry, the_next_place_is_first, valid_tuples_are_fronts,
 };
 
 /// Every front of a faithful list of lines is faithful.
