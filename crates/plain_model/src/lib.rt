@@ -8,6 +8,7 @@
 #![tactic(auto)]
 
 mod rows;
+mod size_laws;
 mod tuple_laws;
 
 ghost use Rattle.std.specs.Prelude.{◌≡◌, ◌++◌, List, ℕ, Some};
@@ -23,6 +24,7 @@ pub use rows::{
     no_states, other_answers, the_fold, the_replies, what_is_left, what_is_not_known,
     what_stands_below, which_are_valid,
 };
+pub use size_laws::{pages_are_longest_fronts, pages_are_short, sizes_are_written_bytes};
 pub use tuple_laws::{
     moves_keep_tuples_valid, past_adds_the_next_place, past_leaves_the_others,
     the_next_place_is_an_entry, the_next_place_is_first, valid_tuples_are_fronts,
