@@ -1,3 +1,5 @@
 pub mod Fronts
 pub mod TupleOrder
 pub mod SizeLaws
+pub mod TupleAt
+pub mod Known

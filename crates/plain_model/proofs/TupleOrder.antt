@@ -145,10 +145,10 @@ front_is_valid m (x ∷ pairs) front = lasts_are m (place_of (next_place m (x �
 
 -- ---- moving past
 
-same_number : (a b : ℕ) → (a == b) ≡ true → a ≡ b
+pub same_number : (a b : ℕ) → (a == b) ≡ true → a ≡ b
 same_number a b e = grind arith
 
-other_number : (a b : ℕ) → (a == b) ≡ false → a ≡ b → ⊥
+pub other_number : (a b : ℕ) → (a == b) ≡ false → a ≡ b → ⊥
 other_number a b e same = grind arith
 
 -- what a move leaves below: what was below, and the place itself
