@@ -3,3 +3,5 @@ pub mod TupleOrder
 pub mod SizeLaws
 pub mod TupleAt
 pub mod Known
+pub mod FoldLogs
+pub mod FoldTable

@@ -166,10 +166,14 @@ abbrev pub with_key_of : Option (List ℕ) → List (List ℕ) → List (List �
 with_key_of None keys = keys
 with_key_of (Some key) keys = with_key key keys
 
--- the keys that were ever to be inserted, in increasing order, with these before
+-- the key that an insert brought in
+abbrev pub key_brought : Answered → Option (List ℕ)
+key_brought a = if is_done a.reply then key_of_command a.command else None
+
+-- the keys that were ever brought in, in increasing order, with these before
 abbrev pub keys_after : List (List ℕ) → List Answered → List (List ℕ)
 keys_after keys [] = keys
-keys_after keys (a ∷ answered) = keys_after (with_key_of (key_of_command a.command) keys) answered
+keys_after keys (a ∷ answered) = keys_after (with_key_of (key_brought a) keys) answered
 
 abbrev pub keys_of : List Answered → List (List ℕ)
 keys_of answered = keys_after [] answered
