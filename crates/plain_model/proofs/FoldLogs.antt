@@ -16,14 +16,14 @@ use Rattle.plain_model.specs.Replicas.{LogState, log_length, log_at, with_log, w
 use Rattle.plain_model.specs.Fold.{Answered, is_limit, added_to, values_of, cut_of, trim_of, kept_from, log_of, logs_of}
 
 -- the value that an answered entry adds to a log
-abbrev adds : LogId → Answered → Option (List ℕ)
+abbrev pub adds : LogId → Answered → Option (List ℕ)
 adds log a = if is_limit a.reply then None else added_to log a.command
 
 one_more : Option (List ℕ) → List (List ℕ)
 one_more None = []
 one_more (Some value) = value ∷ []
 
-abbrev added_list : Option (List ℕ) → List (List ℕ)
+abbrev pub added_list : Option (List ℕ) → List (List ℕ)
 added_list None = []
 added_list (Some value) = value ∷ []
 
@@ -31,13 +31,13 @@ one_item : (h : Answered → Option (List ℕ)) (a : Answered) (o : Option (List
 one_item h a None e = grind (arith, e)
 one_item h a (Some value) e = grind (arith, e)
 
-values-snoc : (log : LogId) (ans : List Answered) (a : Answered) (o : Option (List ℕ)) → adds log a ≡ o → values_of log (ans ++ a ∷ []) ≡ values_of log ans ++ added_list o
+pub values-snoc : (log : LogId) (ans : List Answered) (a : Answered) (o : Option (List ℕ)) → adds log a ≡ o → values_of log (ans ++ a ∷ []) ≡ values_of log ans ++ added_list o
 values-snoc log ans a o e = filter_map-append (λ (b : Answered). adds log b) ans (a ∷ []) ∙ ap (λ (l : List (List ℕ)). values_of log ans ++ l) (one_item (λ (b : Answered). adds log b) a o e)
 
 max_chain : (a b c d : ℕ) → b ≡ max c d → max a b ≡ max (max a c) d
 max_chain a b c d e = omega (arith, e)
 
-trim-snoc : (log : LogId) (ans : List Answered) (a : Answered) → trim_of log (ans ++ a ∷ []) ≡ max (trim_of log ans) (cut_of log a.command a.reply)
+pub trim-snoc : (log : LogId) (ans : List Answered) (a : Answered) → trim_of log (ans ++ a ∷ []) ≡ max (trim_of log ans) (cut_of log a.command a.reply)
 trim-snoc log [] a = omega arith
 trim-snoc log (b ∷ ans) a = max_chain (cut_of log b.command b.reply) (trim_of log (ans ++ a ∷ [])) (trim_of log ans) (cut_of log a.command a.reply) (trim-snoc log ans a)
 
@@ -48,7 +48,7 @@ same-log log ans a e f = ap₂ (kept_from log) (trim-snoc log ans a ∙ no_cut (
     no_cut : (t c : ℕ) → c ≡ 0 → max t c ≡ t
     no_cut t c z = omega (arith, z)
 
-same-list : (ids : List LogId) (ans : List Answered) (a : Answered) → ((log : LogId) → adds log a ≡ None) → ((log : LogId) → cut_of log a.command a.reply ≡ 0) →
+pub same-list : (ids : List LogId) (ans : List Answered) (a : Answered) → ((log : LogId) → adds log a ≡ None) → ((log : LogId) → cut_of log a.command a.reply ≡ 0) →
     map (λ (log : LogId). log_of log ans) ids ≡ map (λ (log : LogId). log_of log (ans ++ a ∷ [])) ids
 same-list [] ans a e f = refl
 same-list (log ∷ ids) ans a e f = ap₂ (λ (x : LogState) (xs : List LogState). x ∷ xs) (sym (same-log log ans a (e log) (f log))) (same-list ids ans a e f)
@@ -88,7 +88,7 @@ take-log : (log : LogId) (ans : List Answered) (a : Answered) (value : List ℕ)
 take-log log ans a value named true kept e f = sym (more-log log ans a value kept e f)
 take-log log ans a value named false kept e f = sym (same-log log ans a e f)
 
-takes-list : (ids : List LogId) (ans : List Answered) (a : Answered) (value : List ℕ) (named : List LogId) → ((log : LogId) → trim_of log ans ≤ length (values_of log ans)) →
+pub takes-list : (ids : List LogId) (ans : List Answered) (a : Answered) (value : List ℕ) (named : List LogId) → ((log : LogId) → trim_of log ans ≤ length (values_of log ans)) →
     ((log : LogId) → adds log a ≡ (if has_log named log.0 then Some value else None)) → ((log : LogId) → cut_of log a.command a.reply ≡ 0) →
     with_value value named (map (λ (log : LogId). log_of log ans) ids) ≡ map (λ (log : LogId). log_of log (ans ++ a ∷ [])) ids
 takes-list [] ans a value named kept e f = refl
@@ -100,7 +100,7 @@ takes-list (log ∷ ids) ans a value named kept e f =
 same_id : (a b : LogId) → a.0 ≡ b.0 → a ≡ b
 same_id a b same = let made : ℕ → LogId = λ r. record { 0 = r } in ap made same
 
-number_is : (a b : ℕ) → (a == b) ≡ true → a ≡ b
+pub number_is : (a b : ℕ) → (a == b) ≡ true → a ≡ b
 number_is a b e = grind arith
 
 at_if : (t : Bool) (x y z : LogState) → (t ≡ true → x ≡ z) → (t ≡ false → y ≡ z) → (if t then x else y) ≡ z
@@ -108,7 +108,7 @@ at_if true x y z e f = e refl
 at_if false x y z e f = f refl
 
 -- the partition's log of a number
-log-at : (ids : List LogId) (ans : List Answered) (log : LogId) → has_log ids log.0 ≡ true → log_at log (map (λ (l : LogId). log_of l ans) ids) ≡ log_of log ans
+pub log-at : (ids : List LogId) (ans : List Answered) (log : LogId) → has_log ids log.0 ≡ true → log_at log (map (λ (l : LogId). log_of l ans) ids) ≡ log_of log ans
 log-at [] ans log has = absurd (true≢false (sym has))
 log-at (id ∷ ids) ans log has = by (id.0 == log.0) refl has (λ h. log-at ids ans log h)
   where
@@ -118,7 +118,7 @@ log-at (id ∷ ids) ans log has = by (id.0 == log.0) refl has (λ h. log-at ids 
     by true e h later = ap (λ (l : LogId). log_of l ans) (same_id id log (number_is id.0 log.0 e))
     by false e h later = later h
 
-length-kept : (log : LogId) (ans : List Answered) → trim_of log ans ≤ length (values_of log ans) → log_length (log_of log ans) ≡ length (values_of log ans)
+pub length-kept : (log : LogId) (ans : List Answered) → trim_of log ans ≤ length (values_of log ans) → log_length (log_of log ans) ≡ length (values_of log ans)
 length-kept log ans kept = omega (arith, kept, length-drop (trim_of log ans) (values_of log ans))
 
 cut-log : (log : LogId) (ans : List Answered) (a : Answered) (position : ℕ) → adds log a ≡ None → cut_of log a.command a.reply ≡ position →
@@ -131,7 +131,7 @@ cut-log log ans a position e f = sym (ap₂ (kept_from log) (trim-snoc log ans a
     up : (t p : ℕ) → t + (p - t) ≡ max t p
     up t p = omega arith
 
-cuts-list : (ids : List LogId) (ans : List Answered) (a : Answered) (named : LogId) (position : ℕ) → ((log : LogId) → adds log a ≡ None) →
+pub cuts-list : (ids : List LogId) (ans : List Answered) (a : Answered) (named : LogId) (position : ℕ) → ((log : LogId) → adds log a ≡ None) →
     ((log : LogId) → cut_of log a.command a.reply ≡ (if named.0 == log.0 then position else 0)) →
     with_log (trimmed_to position (log_of named ans)) (map (λ (log : LogId). log_of log ans) ids) ≡ map (λ (log : LogId). log_of log (ans ++ a ∷ [])) ids
 cuts-list [] ans a named position e f = refl

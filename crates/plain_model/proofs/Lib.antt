@@ -5,3 +5,4 @@ pub mod TupleAt
 pub mod Known
 pub mod FoldLogs
 pub mod FoldTable
+pub mod FoldServices
