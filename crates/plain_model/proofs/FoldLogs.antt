@@ -97,7 +97,7 @@ takes-list (log ∷ ids) ans a value named kept e f =
 
 -- ---- trimming
 
-same_id : (a b : LogId) → a.0 ≡ b.0 → a ≡ b
+pub same_id : (a b : LogId) → a.0 ≡ b.0 → a ≡ b
 same_id a b same = let made : ℕ → LogId = λ r. record { 0 = r } in ap made same
 
 pub number_is : (a b : ℕ) → (a == b) ≡ true → a ≡ b

@@ -24,16 +24,16 @@ pub record Kept (ans : List Answered) : Type 0 where
   pub rise : Rise (keys_of ans)
   pub has : (key value : List ℕ) → held_under key ans ≡ Some value → Has key (keys_of ans)
 
-held-snoc : (key : List ℕ) (before : Option (List ℕ)) (ans : List Answered) (a : Answered) →
+pub held-snoc : (key : List ℕ) (before : Option (List ℕ)) (ans : List Answered) (a : Answered) →
     held_after key before (ans ++ a ∷ []) ≡ or_before (left_by key a) (held_after key before ans)
 held-snoc key before [] a = refl
 held-snoc key before (b ∷ ans) a = held-snoc key (or_before (left_by key b) before) ans a
 
-keys-snoc : (keys : List (List ℕ)) (ans : List Answered) (a : Answered) → keys_after keys (ans ++ a ∷ []) ≡ with_key_of (key_brought a) (keys_after keys ans)
+pub keys-snoc : (keys : List (List ℕ)) (ans : List Answered) (a : Answered) → keys_after keys (ans ++ a ∷ []) ≡ with_key_of (key_brought a) (keys_after keys ans)
 keys-snoc keys [] a = refl
 keys-snoc keys (b ∷ ans) a = keys-snoc (with_key_of (key_brought b) keys) ans a
 
-none_both : {X : Type 0} (t : Bool) → ◌≡◌ {A = Option X} (if t then None else None) None
+pub none_both : {X : Type 0} (t : Bool) → ◌≡◌ {A = Option X} (if t then None else None) None
 none_both true = refl
 none_both false = refl
 
@@ -64,10 +64,10 @@ table-gone ans a key left brought =
     ∙ ap (λ (t : Bool). if t then None else held_under k ans) (bytes_turned key k))
     ∙ ap (λ (ks : List (List ℕ)). table_by (λ k. held_under k (ans ++ a ∷ [])) ks) (sym (keys-snoc [] ans a ∙ ap (λ (o : Option (List ℕ)). with_key_of o (keys_of ans)) brought))
 
-abbrev with_reply : Entry → Command → Reply → Answered
+abbrev pub with_reply : Entry → Command → Reply → Answered
 with_reply e c r = record { entry = e; command = c; reply = r }
 
-found : (ans : List Answered) → Kept ans → (key : List ℕ) → value_of key (table_of ans) ≡ held_under key ans
+pub found : (ans : List Answered) → Kept ans → (key : List ℕ) → value_of key (table_of ans) ≡ held_under key ans
 found ans kept key = value-by (λ k. held_under k ans) (keys_of ans) key (λ v h. kept.has key v h)
 
 trim_table : (t : Bool) (r : Reply) (x y : List LogState) (table : List TableEntry) → (if t then told r x table else told replies.Done y table).table ≡ table

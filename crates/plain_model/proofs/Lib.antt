@@ -6,3 +6,5 @@ pub mod Known
 pub mod FoldLogs
 pub mod FoldTable
 pub mod FoldServices
+pub mod FoldKept
+pub mod FoldSessions
