@@ -26,13 +26,13 @@ abbrev pub HasClient : ℕ → List ClientId → Type 0
 HasClient n [] = ⊥
 HasClient n (k ∷ clients) = (k.0 ≡ n) ⊎ HasClient n clients
 
-same_client : (a b : ClientId) → a.0 ≡ b.0 → a ≡ b
+pub same_client : (a b : ClientId) → a.0 ≡ b.0 → a ≡ b
 same_client a b same = let made : ℕ → ClientId = λ r. record { 0 = r } in ap made same
 
-equal_is : (a b : ℕ) → (a == b) ≡ true → a ≡ b
+pub equal_is : (a b : ℕ) → (a == b) ≡ true → a ≡ b
 equal_is a b e = grind arith
 
-equal_of : (a b : ℕ) → a ≡ b → (a == b) ≡ true
+pub equal_of : (a b : ℕ) → a ≡ b → (a == b) ≡ true
 equal_of a b e = grind arith
 
 differs_of : (a b : ℕ) → a < b → (a == b) ≡ false

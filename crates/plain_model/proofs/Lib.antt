@@ -8,3 +8,4 @@ pub mod FoldTable
 pub mod FoldServices
 pub mod FoldKept
 pub mod FoldSessions
+pub mod FoldNumbers
