@@ -39,6 +39,7 @@ kept-snoc ans a kept cut left = record {
   where
     none_some : (w : List ℕ) → None ≡ Some w → ⊥
     none_some w d = grind arith
+
     by : (k v : List ℕ) (o : Option (Option (List ℕ))) → left_by k a ≡ o → or_before o (held_under k ans) ≡ Some v → Has k (keys_of (ans ++ a ∷ []))
     by k v None e h = subst (λ (keys : List (List ℕ)). Has k keys) (sym (keys-snoc [] ans a)) (has_of (key_brought a) (keys_of ans) k (kept.has k v h))
     by k v (Some None) e h = absurd (none_some v h)
@@ -50,10 +51,11 @@ plain-kept ans a kept cut left = kept-snoc ans a kept (λ log. no_more (cut_of l
   where
     no_more : (c n : ℕ) → c ≡ 0 → c ≤ n
     no_more c n z = omega (arith, z)
+
     none_some : (w : List ℕ) → None ≡ Some (Some w) → ⊥
     none_some w d = grind arith
 
-cut-limit : (log : LogId) (c : Command) → cut_of log c replies.Limit ≡ 0
+pub cut-limit : (log : LogId) (c : Command) → cut_of log c replies.Limit ≡ 0
 cut-limit log (Append named value) = refl
 cut-limit log (Multi named value) = refl
 cut-limit log (ReadLog named position) = refl
@@ -73,6 +75,7 @@ put_left ans a key value left has k v h = by (bytes_eq key k) refl (sym (left k)
   where
     none_some : None ≡ Some (Some v) → ⊥
     none_some d = grind arith
+
     by : (t : Bool) → bytes_eq key k ≡ t → (if t then Some (Some value) else None) ≡ Some (Some v) → Has k (keys_of (ans ++ a ∷ []))
     by true e g = subst (λ (x : List ℕ). Has x (keys_of (ans ++ a ∷ []))) (same_bytes key k e) has
     by false e g = absurd (none_some g)
@@ -90,11 +93,14 @@ room-kept p ans e (TrimLog log position) at kept = by (nat_lt (log_length (log_a
   where
     within_length : (n p : ℕ) → nat_lt n p ≡ false → p ≤ n
     within_length n p h = grind arith
+
     at_most : position ≤ log_length (log_at log (logs_of p ans)) → position ≤ length (values_of log ans)
     at_most le = subst (λ (n : ℕ). position ≤ n) (ap log_length (log-at p.logs ans log at) ∙ length-kept log ans (kept.trims log)) le
+
     cut : position ≤ length (values_of log ans) → (l : LogId) (t : Bool) → (log.0 == l.0) ≡ t → (if t then position else 0) ≤ length (values_of l ans)
     cut le l true h = subst (λ (x : LogId). position ≤ length (values_of x ans)) (same_id log l (number_is log.0 l.0 h)) le
     cut le l false h = omega arith
+
     by : (t : Bool) → nat_lt (log_length (log_at log (logs_of p ans))) position ≡ t →
         Kept (ans ++ with_reply e (TrimLog log position) (if t then replies.Beyond (log_length (log_at log (logs_of p ans))) else replies.Done) ∷ [])
     by true h = plain-kept ans (with_reply e (TrimLog log position) (replies.Beyond (log_length (log_at log (logs_of p ans))))) kept (λ l. refl) (λ k. refl)
@@ -127,6 +133,7 @@ room-kept p ans e (Delete key) at kept = by (value_of key (table_of ans))
     none_left : (k v : List ℕ) (t : Bool) → (if t then Some None else None) ≡ Some (Some v) → ⊥
     none_left k v true d = grind arith
     none_left k v false d = grind arith
+
     by : (x : Option (List ℕ)) → Kept (ans ++ with_reply e (Delete key) (done_where (is_some x) replies.Absent) ∷ [])
     by None = plain-kept ans (with_reply e (Delete key) replies.Absent) kept (λ l. refl) (λ k. refl)
     by (Some old) = kept-snoc ans (with_reply e (Delete key) replies.Done) kept (λ l. omega arith) (λ k v d. absurd (none_left k v (bytes_eq key k) d))

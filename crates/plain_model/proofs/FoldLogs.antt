@@ -62,6 +62,7 @@ more-log log ans a value kept e f =
   where
     no_cut : (t c : ℕ) → c ≡ 0 → max t c ≡ t
     no_cut t c z = omega (arith, z)
+
     made : List (List ℕ) → LogState
     made l = record { id = log; trim = trim_of log ans; values = l }
 
@@ -128,6 +129,7 @@ cut-log log ans a position e f = sym (ap₂ (kept_from log) (trim-snoc log ans a
   where
     made : List (List ℕ) → LogState
     made l = record { id = log; trim = max (trim_of log ans) position; values = l }
+
     up : (t p : ℕ) → t + (p - t) ≡ max t p
     up t p = omega arith
 
@@ -139,8 +141,10 @@ cuts-list (log ∷ ids) ans a named position e f = ap₂ (λ (x : LogState) (xs 
   where
     turned : (x y : ℕ) → (x == y) ≡ false → (y == x) ≡ false
     turned x y h = grind arith
+
     level : (x y : ℕ) → (x == y) ≡ true → (y == x) ≡ true
     level x y h = grind arith
+
     by : (t : Bool) → (log.0 == named.0) ≡ t → cut_of log a.command a.reply ≡ (if named.0 == log.0 then position else 0) →
         (if t then trimmed_to position (log_of named ans) else log_of log ans) ≡ log_of log (ans ++ a ∷ [])
     by true h cut = ap (λ (l : LogId). trimmed_to position (log_of l ans)) (sym (same_id log named (number_is log.0 named.0 h)))

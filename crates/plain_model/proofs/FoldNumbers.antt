@@ -46,12 +46,13 @@ shown-snoc p k n [] e = or-false (concerns p e && ((e.client.0 == k.0) && nat_le
 shown-snoc p k n (b ∷ before) e = or-chain (concerns p b && ((b.client.0 == k.0) && nat_le n b.seq)) (has_shown p k n before)
     (concerns p e && ((e.client.0 == k.0) && nat_le n e.seq)) (has_shown p k n (before ++ e ∷ [])) (shown-snoc p k n before e)
 
-find-none : (t : Answered → Bool) (xs : List Answered) (y : Answered) → find t xs ≡ None → find t (xs ++ y ∷ []) ≡ (if t y then Some y else None)
+pub find-none : (t : Answered → Bool) (xs : List Answered) (y : Answered) → find t xs ≡ None → find t (xs ++ y ∷ []) ≡ (if t y then Some y else None)
 find-none t [] y h = refl
 find-none t (x ∷ xs) y h = by (t x) h (λ g. find-none t xs y g)
   where
     none_some : Some x ≡ None → ⊥
     none_some d = grind arith
+
     by : (b : Bool) → (if b then Some x else find t xs) ≡ None → (find t xs ≡ None → find t (xs ++ y ∷ []) ≡ (if t y then Some y else None)) →
         (if b then Some x else find t (xs ++ y ∷ [])) ≡ (if t y then Some y else None)
     by true g later = absurd (none_some g)
@@ -100,19 +101,30 @@ answered-passed p before e h = answered-snoc p before e ∙ ap (λ (t : Bool). a
 
 pub follows-passed : (p : PartitionTable) (before : List Entry) (ans : List Answered) (e : Entry) → Follows p before ans → concerns p e ≡ false → Follows p (before ++ e ∷ []) ans
 follows-passed p before ans e f doesnt = record {
-  kept = f.kept; rise = f.rise; has = f.has; own = f.own; last_found = f.last_found; none_found = f.none_found;
+  kept = f.kept;
+  rise = f.rise;
+  has = f.has;
+  own = f.own;
+  last_found = f.last_found;
+  none_found = f.none_found;
   greatest = λ k n. shown-snoc p k n before e ∙ ap (λ (t : Bool). has_shown p k n before || (t && ((e.client.0 == k.0) && nat_le n e.seq))) doesnt ∙ or-false (has_shown p k n before) ∙ f.greatest k n;
 }
 
 pub follows-repeat : (p : PartitionTable) (before : List Entry) (ans : List Answered) (e : Entry) → Follows p before ans → concerns p e ≡ true → has_shown p e.client e.seq before ≡ true → Follows p (before ++ e ∷ []) ans
 follows-repeat p before ans e f does shown = record {
-  kept = f.kept; rise = f.rise; has = f.has; own = f.own; last_found = f.last_found; none_found = f.none_found;
+  kept = f.kept;
+  rise = f.rise;
+  has = f.has;
+  own = f.own;
+  last_found = f.last_found;
+  none_found = f.none_found;
   greatest = λ k n. shown-snoc p k n before e ∙ ap (λ (t : Bool). has_shown p k n before || (t && ((e.client.0 == k.0) && nat_le n e.seq))) does
       ∙ by k n (e.client.0 == k.0) refl (last_of k ans None) refl (has_shown p k n before) (f.greatest k n);
 }
   where
     numbers : (n s m : ℕ) → nat_le s m ≡ true → (nat_le n m || nat_le n s) ≡ nat_le n m
     numbers n s m h = grind arith
+
     by : (k : ClientId) (n : ℕ) (t : Bool) → (e.client.0 == k.0) ≡ t → (l : Option Answered) → last_of k ans None ≡ l → (x : Bool) → x ≡ at_least n l → (x || (true && (t && nat_le n e.seq))) ≡ at_least n l
     by k n true h None g x i = absurd (true≢false (sym shown ∙ f.greatest e.client e.seq ∙ ap (λ (c : ClientId). at_least e.seq (last_of c ans None)) (same_client e.client k (equal_is e.client.0 k.0 h)) ∙ ap (λ (o : Option Answered). at_least e.seq o) g))
     by k n true h (Some b) g x i = ap (λ (y : Bool). y || nat_le n e.seq) i ∙ numbers n e.seq b.entry.seq
@@ -134,40 +146,50 @@ follows-counted p before ans a f does new kept = record {
   where
     is_new : (k : ClientId) → (a.entry.client.0 == k.0) ≡ true → at_least a.entry.seq (last_of k ans None) ≡ false
     is_new k h = ap (λ (c : ClientId). at_least a.entry.seq (last_of c ans None)) (sym (same_client a.entry.client k (equal_is a.entry.client.0 k.0 h))) ∙ sym (f.greatest a.entry.client a.entry.seq) ∙ new
+
     has_by : (k : ClientId) (b : Answered) (t : Bool) → (a.entry.client.0 == k.0) ≡ t → (if t then Some a else last_of k ans None) ≡ Some b → HasClient k.0 (clients_of (ans ++ a ∷ []))
     has_by k b true h g = subst (λ (cs : List ClientId). HasClient k.0 cs) (sym (clients-snoc [] ans a))
         (subst (λ (n : ℕ). HasClient n (with_client a.entry.client (clients_of ans))) (equal_is a.entry.client.0 k.0 h) (client_with a.entry.client (clients_of ans)))
     has_by k b false h g = subst (λ (cs : List ClientId). HasClient k.0 cs) (sym (clients-snoc [] ans a)) (client_still k.0 a.entry.client (clients_of ans) (f.has k b g))
+
     own_by : (k : ClientId) (b : Answered) (t : Bool) → (a.entry.client.0 == k.0) ≡ t → (if t then Some a else last_of k ans None) ≡ Some b → b.entry.client.0 ≡ k.0
     own_by k b true h g = ap (λ (x : Answered). x.entry.client.0) (sym (some_same a b g)) ∙ equal_is a.entry.client.0 k.0 h
     own_by k b false h g = f.own k b g
+
     numbers : (n s m : ℕ) → nat_le s m ≡ false → (nat_le n m || nat_le n s) ≡ nat_le n s
     numbers n s m h = grind arith
+
     by : (k : ClientId) (n : ℕ) (t : Bool) → (a.entry.client.0 == k.0) ≡ t → (l : Option Answered) → last_of k ans None ≡ l → (x : Bool) → x ≡ at_least n (last_of k ans None) →
         (x || (true && (t && nat_le n a.entry.seq))) ≡ at_least n (if t then Some a else last_of k ans None)
     by k n true h None g x i = ap (λ (y : Bool). y || nat_le n a.entry.seq) (i ∙ ap (λ (o : Option Answered). at_least n o) g)
     by k n true h (Some b) g x i = ap (λ (y : Bool). y || nat_le n a.entry.seq) (i ∙ ap (λ (o : Option Answered). at_least n o) g)
         ∙ numbers n a.entry.seq b.entry.seq (sym (ap (λ (o : Option Answered). at_least a.entry.seq o) g) ∙ is_new k h)
     by k n false h l g x i = or-false x ∙ i
+
     hit : (k : ClientId) → (a.entry.client.0 == k.0) ≡ true → is_of k a.entry.seq a ≡ true
     hit k h = ap (λ (t : Bool). t && (a.entry.seq == a.entry.seq)) h ∙ itself a.entry.seq
       where
         itself : (n : ℕ) → (n == n) ≡ true
         itself n = grind arith
+
     found_by : (k : ClientId) (b : Answered) (t : Bool) → (a.entry.client.0 == k.0) ≡ t → (if t then Some a else last_of k ans None) ≡ Some b → find (is_of k b.entry.seq) (ans ++ a ∷ []) ≡ Some b
     found_by k b true h g = subst (λ (x : Answered). find (is_of k x.entry.seq) (ans ++ a ∷ []) ≡ Some x) (some_same a b g)
         (find-none (is_of k a.entry.seq) ans a (f.none_found k a.entry.seq (is_new k h)) ∙ ap (λ (t : Bool). if t then Some a else None) (hit k h))
     found_by k b false h g = find-some (is_of k b.entry.seq) ans a b (f.last_found k b g)
+
     miss : (k : ClientId) (n : ℕ) → nat_le n a.entry.seq ≡ false → (a.entry.client.0 == k.0) ≡ true → is_of k n a ≡ false
     miss k n less h = ap (λ (t : Bool). t && (a.entry.seq == n)) h ∙ differs n a.entry.seq less
       where
         differs : (n m : ℕ) → nat_le n m ≡ false → (m == n) ≡ false
         differs n m e = grind arith
+
     older : (n s m : ℕ) → nat_le n s ≡ false → nat_le s m ≡ false → nat_le n m ≡ false
     older n s m x y = grind arith
+
     older_last : (n : ℕ) (l : Option Answered) → nat_le n a.entry.seq ≡ false → at_least a.entry.seq l ≡ false → at_least n l ≡ false
     older_last n None x y = refl
     older_last n (Some b) x y = older n a.entry.seq b.entry.seq x y
+
     none_by : (k : ClientId) (n : ℕ) (t : Bool) → (a.entry.client.0 == k.0) ≡ t → at_least n (if t then Some a else last_of k ans None) ≡ false → find (is_of k n) (ans ++ a ∷ []) ≡ None
     none_by k n true h g = find-none (is_of k n) ans a (f.none_found k n (older_last n (last_of k ans None) g (is_new k h))) ∙ ap (λ (t : Bool). if t then Some a else None) (miss k n g h)
     none_by k n false h g = find-none (is_of k n) ans a (f.none_found k n g) ∙ ap (λ (t : Bool). if t && (a.entry.seq == n) then Some a else None) h

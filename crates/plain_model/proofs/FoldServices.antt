@@ -39,7 +39,7 @@ none_both false = refl
 
 -- ---- the table
 
-table-none : (ans : List Answered) (a : Answered) → ((key : List ℕ) → left_by key a ≡ None) → key_brought a ≡ None → table_of ans ≡ table_of (ans ++ a ∷ [])
+pub table-none : (ans : List Answered) (a : Answered) → ((key : List ℕ) → left_by key a ≡ None) → key_brought a ≡ None → table_of ans ≡ table_of (ans ++ a ∷ [])
 table-none ans a left brought =
     alike (λ key. held_under key ans) (λ key. held_under key (ans ++ a ∷ [])) (keys_of ans)
     (λ key. sym (held-snoc key None ans a ∙ ap (λ (o : Option (Option (List ℕ))). or_before o (held_under key ans)) (left key)))

@@ -60,8 +60,10 @@ session-by f (other ∷ clients) k own has = by (f other) refl (other.0 == k.0) 
       | inl here ↦ absurd (not_equal other.0 k.0 e here)
       | inr later ↦ later
     ]
+
     nothing : f other ≡ None → (other.0 == k.0) ≡ true → (s : Session) → f k ≡ Some s → HasClient k.0 clients
     nothing g e s h = absurd (none_some s (sym g ∙ ap f (same_client other k (equal_is other.0 k.0 e)) ∙ h))
+
     by : (o : Option Session) → f other ≡ o → (t : Bool) → (other.0 == k.0) ≡ t → (((s : Session) → f k ≡ Some s → HasClient k.0 clients) → session_at k (sessions_by f clients) ≡ f k) →
         session_at k (cons_option o (sessions_by f clients)) ≡ f k
     by None g true e later = later (nothing g e)
@@ -101,13 +103,17 @@ with-session f h (other ∷ clients) new own rise here =
   where
     agree : (k : ClientId) → (new.client.0 == k.0) ≡ false → f k ≡ h k
     agree k e = sym (here k ∙ ap (λ (t : Bool). if t then Some new else f k) e)
+
     not_less : (a b : ℕ) → a ≡ b → nat_lt a b ≡ false
     not_less a b e = grind arith
+
     above_all : (n m : ℕ) (ks : List ClientId) → n < m → AllAbove m ks → AllAbove n ks
     above_all n m [] less above = tt
     above_all n m (k ∷ ks) less above = (omega (arith, less, above.0), above_all n m ks less above.1)
+
     lt_is : (a b : ℕ) → nat_lt a b ≡ true → a < b
     lt_is a b e = grind arith
+
     by : (t : Bool) → (new.client.0 == other.0) ≡ t → (u : Bool) → nat_lt new.client.0 other.0 ≡ u → (o : Option Session) → f other ≡ o →
         with_session new (sessions_by f clients) ≡ sessions_by h (with_client new.client clients) →
         with_session new (cons_option o (sessions_by f clients)) ≡ sessions_by h (if t then other ∷ clients else if u then new.client ∷ other ∷ clients else other ∷ with_client new.client clients)
@@ -116,6 +122,7 @@ with-session f h (other ∷ clients) new own rise here =
       where
         above : AllAbove new.client.0 clients
         above = subst (λ (n : ℕ). AllAbove n clients) (sym (equal_is new.client.0 other.0 e)) rise.0
+
         by_same : (o : Option Session) → f other ≡ o → with_session new (cons_option o (sessions_by f clients)) ≡ new ∷ sessions_by f clients
         by_same None g = put-first f clients new own above
         by_same (Some s) g = steps new s (sessions_by f clients) false true (not_less new.client.0 s.client.0 (equal_is new.client.0 other.0 e ∙ sym (own other s g)))
@@ -150,10 +157,13 @@ increase-with k (other ∷ clients) rise = by (k.0 == other.0) refl (nat_lt k.0 
     above_all : (n m : ℕ) (ks : List ClientId) → n < m → AllAbove m ks → AllAbove n ks
     above_all n m [] less above = tt
     above_all n m (x ∷ ks) less above = (omega (arith, less, above.0), above_all n m ks less above.1)
+
     lt_is : (a b : ℕ) → nat_lt a b ≡ true → a < b
     lt_is a b e = grind arith
+
     more_is : (a b : ℕ) → (a == b) ≡ false → nat_lt a b ≡ false → b < a
     more_is a b e i = grind arith
+
     by : (t : Bool) → (k.0 == other.0) ≡ t → (u : Bool) → nat_lt k.0 other.0 ≡ u → Increase (with_client k clients) →
         Increase (if t then other ∷ clients else if u then k ∷ other ∷ clients else other ∷ with_client k clients)
     by true e u i later = rise

@@ -74,11 +74,13 @@ value-by f (other ∷ keys) key has = by (f other) refl (bytes_eq other key) ref
       | inl here ↦ absurd (true≢false (sym here ∙ e))
       | inr there ↦ there
     ]
+
     nothing_there : f other ≡ None → bytes_eq other key ≡ true → (v : List ℕ) → f key ≡ Some v → Has key keys
     nothing_there g e v h = absurd (none_some v (sym g ∙ ap f (same_bytes other key e) ∙ h))
       where
         none_some : (w : List ℕ) → None ≡ Some w → ⊥
         none_some w d = grind arith
+
     by : (o : Option (List ℕ)) → f other ≡ o → (t : Bool) → bytes_eq other key ≡ t → (((v : List ℕ) → f key ≡ Some v → Has key keys) → value_of key (table_by f keys) ≡ f key) →
         value_of key (cons_option (option_map (λ (value : List ℕ). record { key = other; value = value }) o) (table_by f keys)) ≡ f key
     by None g true e later = later (nothing_there g e)
@@ -95,6 +97,7 @@ without-by f g (other ∷ keys) key same = by (f other) refl (bytes_eq other key
   where
     made : List ℕ → TableEntry
     made v = record { key = other; value = v }
+
     by : (o : Option (List ℕ)) → f other ≡ o → (t : Bool) → bytes_eq other key ≡ t → without key (table_by f keys) ≡ table_by g keys →
         without key (cons_option (option_map (λ (value : List ℕ). record { key = other; value = value }) o) (table_by f keys)) ≡
         cons_option (option_map (λ (value : List ℕ). record { key = other; value = value }) (g other)) (table_by g keys)
@@ -142,6 +145,7 @@ put-first g (other ∷ keys) key value after = by (g other) (put-first g keys ke
   where
     new : TableEntry
     new = record { key = key; value = value }
+
     by : (o : Option (List ℕ)) → put_in (record { key = key; value = value }) (table_by g keys) ≡ (record { key = key; value = value }) ∷ table_by g keys →
         put_in (record { key = key; value = value }) (cons_option (option_map (λ (v : List ℕ). record { key = other; value = v }) o) (table_by g keys)) ≡
         (record { key = key; value = value }) ∷ cons_option (option_map (λ (v : List ℕ). record { key = other; value = v }) o) (table_by g keys)
@@ -240,6 +244,7 @@ put-by f g h (other ∷ keys) key value rise gone here =
   where
     agree : (k : List ℕ) → bytes_eq key k ≡ false → g k ≡ h k
     agree k e = gone k ∙ ap (λ (t : Bool). if t then None else f k) e ∙ sym (here k ∙ ap (λ (t : Bool). if t then Some value else f k) e)
+
     by : (t : Bool) → bytes_eq key other ≡ t → (u : Bool) → is_before key other ≡ u → (o : Option (List ℕ)) → g other ≡ o →
         put_in (some_entry key value) (table_by g keys) ≡ table_by h (with_key key keys) →
         put_in (some_entry key value) (front other o (table_by g keys)) ≡ table_by h (if t then other ∷ keys else if u then key ∷ other ∷ keys else other ∷ with_key key keys)

@@ -9,3 +9,4 @@ pub mod FoldServices
 pub mod FoldKept
 pub mod FoldSessions
 pub mod FoldNumbers
+pub mod FoldLaw

@@ -7,6 +7,7 @@
 //! partition has come. `rows` has worked examples.
 #![tactic(auto)]
 
+mod fold_laws;
 mod known_laws;
 mod rows;
 mod size_laws;
@@ -19,6 +20,7 @@ ghost use Rattle.transcript.specs.declared.line.Line.{Line};
 ghost use Rattle.plain_model.specs.Lines.{book};
 ghost use Rattle.plain_model.specs.Faithful.{Order, IsFaithful};
 
+pub use fold_laws::{replicas_keep_what_the_lists_say, replicas_reply_what_the_lists_say};
 pub use known_laws::entries_below_stay;
 pub use rows::{
     a_larger_state, a_next_place, a_page, a_replica, a_state, a_state_read, a_state_written,
