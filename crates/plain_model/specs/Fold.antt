@@ -1,6 +1,6 @@
 -- What a partition's entries mean, over plain lists: which of them count, what the logs and the table hold after them, what is
 -- replied, the state, and what a client is answered. Nothing here is kept from one entry to the next.
-use Rattle.std.specs.Prelude.{ℕ, zero, suc, ◌+◌, ◌-◌, ◌==◌, nat_le, nat_lt, max, Bool, true, false, not, ◌&&◌, ◌||◌, if◌then◌else◌, List, [], ◌∷◌, ◌++◌, map, filter, filter_map, drop, take_while, find, slice_get, sum, bytes_eq, is_some, option_map, Option, Some, None, Result, Ok, Err}
+use Rattle.std.specs.Prelude.{ℕ, zero, suc, ◌+◌, ◌-◌, ◌==◌, nat_le, nat_lt, max, Bool, true, false, not, ◌&&◌, ◌||◌, if◌then◌else◌, List, [], ◌∷◌, ◌++◌, map, filter, filter_map, drop, take_while, find, sum, bytes_eq, is_some, option_map, Option, Some, None, Result, Ok, Err}
 use Rattle.mrp_types.specs.declared.id.ClientId.{ClientId}
 use Rattle.mrp_types.specs.declared.id.LogId.{LogId}
 use Rattle.mrp_types.specs.declared.id.RingId.{RingId}
@@ -12,7 +12,6 @@ use Rattle.mrp_types.specs.Book.{Learning, book_of}
 use Rattle.mrp_types.specs.Places.{place_lt}
 use Rattle.command_codec.specs.declared.command.Command.{Command}
 use Rattle.command_codec.specs.declared.command.Command.TheVariants.{Append, Multi, ReadLog, TrimLog, Get, Scan, Update, Insert, Delete}
-use Rattle.command_codec.specs.declared.reply.LogPosition.{LogPosition}
 use Rattle.command_codec.specs.declared.reply.TableEntry.{TableEntry}
 use Rattle.command_codec.specs.declared.reply.Reply.{Reply}
 use Rattle.command_codec.specs.declared.reply.Reply.TheVariants as replies
@@ -23,7 +22,7 @@ use Rattle.mrp_config.specs.declared.tables.PartitionTable.{PartitionTable}
 use Rattle.mrp_config.specs.Config.{Config, has_log, has_ring}
 use Rattle.mrp_config.specs.Routing.{is_before, is_concerned, concerned_of}
 use Rattle.plain_model.specs.Tuples.{round_sizes, first_tuple, next_place, past, tuple_at}
-use Rattle.plain_model.specs.Replicas.{LogState, Session, Replica, log_length, log_at, value_of, value_or_absent, page_of, scanned, has_no_room, entries_of_batch}
+use Rattle.plain_model.specs.Replicas.{LogState, Session, Replica, log_length, log_at, ends_of, read_at, value_of, value_or_absent, page_of, scanned, has_no_room, entries_of_batch}
 use Rattle.plain_model.specs.StateBytes.{state_bytes}
 
 -- ---- entries below a tuple
@@ -167,10 +166,17 @@ abbrev pub with_key_of : Option (List ℕ) → List (List ℕ) → List (List �
 with_key_of None keys = keys
 with_key_of (Some key) keys = with_key key keys
 
--- the keys that were ever to be inserted, in increasing order
+-- the key that an insert brought in
+abbrev pub key_brought : Answered → Option (List ℕ)
+key_brought a = if is_done a.reply then key_of_command a.command else None
+
+-- the keys that were ever brought in, in increasing order, with these before
+abbrev pub keys_after : List (List ℕ) → List Answered → List (List ℕ)
+keys_after keys [] = keys
+keys_after keys (a ∷ answered) = keys_after (with_key_of (key_brought a) keys) answered
+
 abbrev pub keys_of : List Answered → List (List ℕ)
-keys_of [] = []
-keys_of (a ∷ answered) = with_key_of (key_of_command a.command) (keys_of answered)
+keys_of answered = keys_after [] answered
 
 -- the keys that have a value, in increasing order, with their values
 abbrev pub entry_under : List ℕ → List Answered → Option TableEntry
@@ -192,17 +198,6 @@ logs_of p answered = map (λ (log : LogId). log_of log answered) p.logs
 
 -- ---- replies
 
--- the ends of those of the partition's logs that are named, in order
-abbrev pub ends_after : List LogState → List LogId → List LogPosition
-ends_after logs named = filter_map (λ (log : LogState). if has_log named log.id.0 then Some (record { log = log.id; position = log_length log }) else None) logs
-
--- below the trim the trim, at or past the length the length, else the value
-abbrev pub read_of : ℕ → LogState → Reply
-read_of position log =
-    if nat_lt position log.trim then replies.Trimmed log.trim
-    else if nat_le (log_length log) position then replies.Beyond (log_length log)
-    else value_or_absent (slice_get log.values (position - log.trim))
-
 abbrev pub trim_reply : ℕ → LogState → Reply
 trim_reply position log = if nat_lt (log_length log) position then replies.Beyond (log_length log) else replies.Done
 
@@ -211,9 +206,9 @@ done_where there other = if there then replies.Done else other
 
 -- the reply to a command that has room, over the logs and the table before it
 abbrev pub reply_with_room : Command → List LogState → List TableEntry → Reply
-reply_with_room (Append log value) logs table = replies.Positions (ends_after logs (log ∷ []))
-reply_with_room (Multi named value) logs table = replies.Positions (ends_after logs named)
-reply_with_room (ReadLog log position) logs table = read_of position (log_at log logs)
+reply_with_room (Append log value) logs table = replies.Positions (ends_of (log ∷ []) logs)
+reply_with_room (Multi named value) logs table = replies.Positions (ends_of named logs)
+reply_with_room (ReadLog log position) logs table = read_at position (log_at log logs)
 reply_with_room (TrimLog log position) logs table = trim_reply position (log_at log logs)
 reply_with_room (Get key) logs table = value_or_absent (value_of key table)
 reply_with_room (Scan from to) logs table = page_of (scanned from to table)
@@ -281,10 +276,13 @@ with_client client (other ∷ clients) =
     else if nat_lt client.0 other.0 then client ∷ other ∷ clients
     else other ∷ with_client client clients
 
--- the clients of some counted entries, in increasing order
+-- the clients of some counted entries, in increasing order, with these before
+abbrev pub clients_after : List ClientId → List Answered → List ClientId
+clients_after clients [] = clients
+clients_after clients (a ∷ answered) = clients_after (with_client a.entry.client clients) answered
+
 abbrev pub clients_of : List Answered → List ClientId
-clients_of [] = []
-clients_of (a ∷ answered) = with_client a.entry.client (clients_of answered)
+clients_of answered = clients_after [] answered
 
 -- each client with its greatest counted number, which is that of its last counted entry, and the reply to it
 abbrev pub sessions_of : List Answered → List Session

@@ -50,12 +50,12 @@ kept_reply_at spot = do
   bytes ← bytes_at number.0 number.1
   if was_reply (reply_of bytes.0) then Ok bytes else Err (BadField number.1.at)
 
-abbrev pub session_of : ℕ × (ℕ × List ℕ) → Session
-session_of x = record { client = record { 0 = x.0 }; seq = x.1.0; reply = x.1.1 }
+abbrev pub session_with : ℕ × (ℕ × List ℕ) → Session
+session_with x = record { client = record { 0 = x.0 }; seq = x.1.0; reply = x.1.1 }
 
 -- the session of a client of at least this number
 unfoldable pub session_at_least : ℕ → Reader Session
-session_at_least least = shown session_of (both (within least 255 byte_at) (both (within 1 (2 ^ 63 - 1) (number_at w64)) kept_reply_at))
+session_at_least least = shown session_with (both (within least 255 byte_at) (both (within 1 (2 ^ 63 - 1) (number_at w64)) kept_reply_at))
 
 abbrev pub after_client : Session → ℕ
 after_client session = session.client.0 + 1
@@ -69,12 +69,12 @@ sessions_at = counted (number_at w16) session_at_least after_client 0
 abbrev pub values_after : ℕ → Reader (List (List ℕ))
 values_after trim = many (within 0 (2 ^ 63 - trim) (number_at w64)) (string_at 0 2048)
 
-abbrev pub log_of : ℕ × (ℕ × List (List ℕ)) → LogState
-log_of x = record { id = record { 0 = x.0 }; trim = x.1.0; values = x.1.1 }
+abbrev pub log_with : ℕ × (ℕ × List (List ℕ)) → LogState
+log_with x = record { id = record { 0 = x.0 }; trim = x.1.0; values = x.1.1 }
 
 -- this very log
 unfoldable pub this_log_at : LogId → Reader LogState
-this_log_at id = shown log_of (both (within id.0 id.0 byte_at) (follow (within 0 (2 ^ 63) (number_at w64)) values_after))
+this_log_at id = shown log_with (both (within id.0 id.0 byte_at) (follow (within 0 (2 ^ 63) (number_at w64)) values_after))
 
 -- these very logs, one after another
 abbrev pub these_logs_at : List LogId → Reader (List LogState)

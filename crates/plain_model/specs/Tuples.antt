@@ -1,6 +1,6 @@
 -- Tuples of a partition: how far its replicas have come in the one order of the places of its rings. A tuple has for each of
 -- these rings, in increasing order, the instance that comes next. The size of a ring's round is a function of its number.
-use Rattle.std.specs.Prelude.{ℕ, zero, suc, ◌+◌, ◌*◌, ◌/◌, ◌==◌, nat_le, nat_lt, Bool, true, false, not, ◌&&◌, if◌then◌else◌, List, [], ◌∷◌, map, Option, Some, None}
+use Rattle.std.specs.Prelude.{ℕ, zero, suc, ◌≡◌, ◌<◌, ◌≤◌, ◌⊎◌, IsTrue, ◌+◌, ◌*◌, ◌/◌, ◌==◌, nat_le, nat_lt, Bool, true, false, not, ◌&&◌, if◌then◌else◌, List, [], ◌∷◌, map, Option, Some, None}
 use Rattle.mrp_types.specs.declared.id.RingId.{RingId}
 use Rattle.mrp_types.specs.declared.place.Place.{Place}
 use Rattle.mrp_types.specs.Places.{place_lt}
@@ -78,6 +78,27 @@ has_rings rings pairs = false
 abbrev pub is_tuple_of : (ℕ → ℕ) → List RingId → List (RingId × ℕ) → Bool
 is_tuple_of m rings tuple = has_rings rings tuple && is_valid_tuple m tuple
 
+-- ---- the same in plain words
+
+-- one of these pairs
+abbrev pub IsOneOf : RingId × ℕ → List (RingId × ℕ) → Type 0
+IsOneOf pair [] = ⊥
+IsOneOf pair (x ∷ pairs) = (pair ≡ x) ⊎ IsOneOf pair pairs
+
+-- a place of the tuple's rings that is below it
+abbrev pub IsBelow : Place → List (RingId × ℕ) → Type 0
+IsBelow place [] = ⊥
+IsBelow place (x ∷ pairs) = ((place.ring.0 ≡ x.0.0) × (place.inst < x.1)) ⊎ IsBelow place pairs
+
+-- a place of the tuple's rings that isn't below it
+abbrev pub IsNotBelow : Place → List (RingId × ℕ) → Type 0
+IsNotBelow place [] = ⊥
+IsNotBelow place (x ∷ pairs) = ((place.ring.0 ≡ x.0.0) × (x.1 ≤ place.inst)) ⊎ IsNotBelow place pairs
+
+-- each place below the tuple comes before each that isn't below
+abbrev pub IsFront : (ℕ → ℕ) → List (RingId × ℕ) → Type 0
+IsFront m tuple = (below other : Place) → IsBelow below tuple → IsNotBelow other tuple → IsTrue (place_lt m below other)
+
 -- ---- what a tuple says
 
 -- the entry of a ring
@@ -103,3 +124,7 @@ count_before m ring place =
 -- the tuple below which are the places of these rings that come before a place
 abbrev pub tuple_at : (ℕ → ℕ) → List RingId → Place → List (RingId × ℕ)
 tuple_at m rings place = map (λ (ring : RingId). (ring, count_before m ring place)) rings
+
+-- the tuple below which are these, and the place itself
+abbrev pub tuple_after : (ℕ → ℕ) → List RingId → Place → List (RingId × ℕ)
+tuple_after m rings place = moved_past (place.ring, place.inst) (tuple_at m rings place)

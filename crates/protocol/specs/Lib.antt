@@ -17,3 +17,4 @@ pub mod Tick
 pub mod Step
 pub mod Opening
 pub mod Client
+pub mod ClientRows
