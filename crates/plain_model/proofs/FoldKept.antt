@@ -1,5 +1,5 @@
 -- What the lists of answered entries keep to stays so with each further one.
-use Rattle.std.proofs.Common.{arith, ◌≡◌, ◌<◌, ◌≤◌, ◌⊎◌, inl, inr, ℕ, zero, suc, ◌+◌, max, ◌==◌, nat_lt, nat_le, Bool, true, false, if◌then◌else◌, List, [], ◌∷◌, ◌++◌, length, Option, Some, None, refl, sym, ap, ◌∙◌, subst, true≢false}
+use Rattle.std.proofs.Common.{arith, ◌≡◌, ◌≤◌, ℕ, ◌+◌, max, ◌==◌, nat_lt, Bool, true, false, if◌then◌else◌, List, [], ◌∷◌, ◌++◌, length, Option, Some, None, refl, sym, ap, ◌∙◌, subst}
 use Rattle.std.specs.Prelude.{bytes_eq, is_some, not}
 use Rattle.std.proofs.lemmas.List.{length-append}
 use Rattle.mrp_types.specs.declared.id.LogId.{LogId}
@@ -10,10 +10,10 @@ use Rattle.command_codec.specs.declared.reply.Reply.{Reply}
 use Rattle.command_codec.specs.declared.reply.Reply.TheVariants as replies
 use Rattle.mrp_config.specs.declared.tables.PartitionTable.{PartitionTable}
 use Rattle.mrp_config.specs.Routing.{is_concerned}
-use Rattle.plain_model.specs.Replicas.{LogState, log_length, log_at, value_of, read_at}
-use Rattle.plain_model.specs.Fold.{Answered, is_limit, is_done, values_of, cut_of, trim_of, log_of, logs_of, left_by, or_before, held_under, with_key, with_key_of, key_brought, keys_after, keys_of, table_of, reply_with_room, trim_reply, done_where}
+use Rattle.plain_model.specs.Replicas.{log_length, log_at, value_of, read_at}
+use Rattle.plain_model.specs.Fold.{Answered, is_done, values_of, cut_of, trim_of, logs_of, left_by, or_before, held_under, with_key_of, key_brought, keys_of, table_of, reply_with_room, done_where}
 use Rattle.plain_model.proofs.FoldLogs.{adds, added_list, values-snoc, trim-snoc, log-at, length-kept, number_is, same_id}
-use Rattle.plain_model.proofs.FoldTable.{Rise, Has, rise_with, has_with, has_still, with_has, same_bytes}
+use Rattle.plain_model.proofs.FoldTable.{Rise, Has, rise_with, has_with, has_still, same_bytes}
 use Rattle.plain_model.proofs.FoldServices.{Kept, held-snoc, keys-snoc, none_both, found, with_reply}
 
 rise_of : (o : Option (List ℕ)) (keys : List (List ℕ)) → Rise keys → Rise (with_key_of o keys)

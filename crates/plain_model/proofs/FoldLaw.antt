@@ -1,9 +1,8 @@
 -- A replica that takes entries one by one has what the plain lists say, and replies as they say.
-use Rattle.std.proofs.Common.{arith, ◌≡◌, ◌<◌, ℕ, zero, suc, ◌+◌, ◌==◌, nat_lt, nat_le, Bool, true, false, not, ◌&&◌, if◌then◌else◌, List, [], ◌∷◌, ◌++◌, Option, Some, None, Result, Ok, Err, refl, sym, ap, ◌∙◌, subst, append_assoc, append-nil, true≢false}
+use Rattle.std.proofs.Common.{arith, ◌≡◌, ℕ, suc, ◌+◌, ◌==◌, nat_lt, nat_le, Bool, true, false, not, ◌&&◌, if◌then◌else◌, List, [], ◌∷◌, ◌++◌, Option, Some, None, Result, Ok, Err, refl, sym, ap, ◌∙◌, subst, append_assoc, append-nil}
 use Rattle.std.specs.Prelude.{find, is_some, option_map, filter_map}
 use Rattle.std.proofs.Math.Path.{ap₂}
 use Rattle.mrp_types.specs.declared.id.ClientId.{ClientId}
-use Rattle.mrp_types.specs.declared.id.LogId.{LogId}
 use Rattle.mrp_types.specs.declared.value.Entry.{Entry}
 use Rattle.command_codec.specs.declared.command.Command.{Command}
 use Rattle.command_codec.specs.declared.reply.Reply.{Reply}
@@ -14,13 +13,13 @@ use Rattle.command_codec.specs.Grammar.{command_of}
 use Rattle.command_codec.specs.Replies.{reply_bytes}
 use Rattle.mrp_config.specs.declared.tables.PartitionTable.{PartitionTable}
 use Rattle.mrp_config.specs.Routing.{is_concerned}
-use Rattle.plain_model.specs.Replicas.{Session, LogState, Replica, Applied, AppliedAll, Effect, apply, applies, applies_from, with_applied, judged, numbered, taken, taken_with, kept as keep, passed_over, given_again, where_room, has_no_room, told, effect_of, empty_replica, session_at, with_session}
-use Rattle.plain_model.specs.Fold.{Answered, concerning, command_for, concerns, has_shown, counts_after, is_newest_after, answered_of, with_answer, reply_with_room, reply_after, or_limit, overfill, logs_of, table_of, last_of, session_from, sessions_of, clients_of, is_of, reply_in, reply_to, replica_of, replica_after, with_client, is_limit}
+use Rattle.plain_model.specs.Replicas.{Session, LogState, Replica, Applied, AppliedAll, Effect, apply, applies, applies_from, with_applied, judged, numbered, taken, passed_over, given_again, where_room, has_no_room, told, effect_of, empty_replica, session_at, with_session}
+use Rattle.plain_model.specs.Fold.{Answered, concerning, command_for, concerns, has_shown, counts_after, is_newest_after, answered_of, with_answer, reply_with_room, reply_after, or_limit, overfill, logs_of, table_of, last_of, session_from, sessions_of, clients_of, is_of, reply_in, reply_to, replica_of, replica_after}
 use Rattle.plain_model.proofs.FoldLogs.{same-list}
-use Rattle.plain_model.proofs.FoldServices.{Kept, with_reply, effect-logs, effect-table, effect-reply, table-none, none_both}
+use Rattle.plain_model.proofs.FoldServices.{Kept, with_reply, effect-logs, effect-table, effect-reply, table-none}
 use Rattle.plain_model.proofs.FoldKept.{limit-kept, room-kept, cut-limit}
 use Rattle.plain_model.proofs.FoldSessions.{AreOwn, HasClient, session-by, with-session}
-use Rattle.plain_model.proofs.FoldNumbers.{Follows, at_least, last-snoc, clients-snoc, find-none, some_same, answered-counted, answered-passed, follows-passed, follows-repeat, follows-counted}
+use Rattle.plain_model.proofs.FoldNumbers.{Follows, at_least, last-snoc, clients-snoc, find-none, answered-counted, answered-passed, follows-passed, follows-repeat, follows-counted}
 
 -- ---- the services
 
@@ -46,9 +45,6 @@ services-step p ans e c at kept = by (has_no_room made.logs made.table) refl
   where
     made : Effect
     made = effect_of c (logs_of p ans) (table_of ans)
-
-    room : Reply
-    room = reply_with_room c (logs_of p ans) (table_of ans)
 
     same_room : has_no_room (effect_of c (logs_of p ans) (table_of ans)).logs (effect_of c (logs_of p ans) (table_of ans)).table ≡
         overfill p (ans ++ with_reply e c (reply_with_room c (logs_of p ans) (table_of ans)) ∷ [])

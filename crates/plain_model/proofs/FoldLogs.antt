@@ -1,27 +1,18 @@
 -- What a replica's logs become with an entry is what the plain lists say of them.
-use Rattle.std.proofs.Common.{arith, ◌≡◌, ◌<◌, ◌≤◌, ℕ, zero, suc, ◌+◌, ◌-◌, max, ◌==◌, nat_lt, nat_le, Bool, true, false, if◌then◌else◌, List, [], ◌∷◌, ◌++◌, length, drop, Option, Some, None, refl, sym, ap, ◌∙◌, subst, append-nil, true≢false}
+use Rattle.std.proofs.Common.{arith, ◌≡◌, ◌≤◌, ℕ, zero, suc, ◌+◌, ◌-◌, max, ◌==◌, Bool, true, false, if◌then◌else◌, List, [], ◌∷◌, ◌++◌, length, drop, Option, Some, None, refl, sym, ap, ◌∙◌, append-nil, true≢false}
 use Rattle.std.specs.Prelude.{map, filter_map}
 use Rattle.std.proofs.Math.Path.{ap₂}
 use Rattle.std.proofs.Math.Seq.{drop-nil}
-use Rattle.std.proofs.lemmas.List.{drop-append-le, length-append, length-drop}
+use Rattle.std.proofs.lemmas.List.{drop-append-le, length-drop}
 use Rattle.std.proofs.lemmas.List.Elements.{filter_map-append}
 use Rattle.mrp_types.specs.declared.id.LogId.{LogId}
-use Rattle.command_codec.specs.declared.command.Command.{Command}
-use Rattle.command_codec.specs.declared.command.Command.TheVariants.{Append, Multi, ReadLog, TrimLog, Get, Scan, Update, Insert, Delete}
-use Rattle.command_codec.specs.declared.reply.Reply.{Reply}
-use Rattle.command_codec.specs.declared.reply.Reply.TheVariants as replies
-use Rattle.mrp_config.specs.declared.tables.PartitionTable.{PartitionTable}
 use Rattle.mrp_config.specs.Config.{has_log}
 use Rattle.plain_model.specs.Replicas.{LogState, log_length, log_at, with_log, with_value, trimmed_to}
-use Rattle.plain_model.specs.Fold.{Answered, is_limit, added_to, values_of, cut_of, trim_of, kept_from, log_of, logs_of}
+use Rattle.plain_model.specs.Fold.{Answered, is_limit, added_to, values_of, cut_of, trim_of, kept_from, log_of}
 
 -- the value that an answered entry adds to a log
 abbrev pub adds : LogId → Answered → Option (List ℕ)
 adds log a = if is_limit a.reply then None else added_to log a.command
-
-one_more : Option (List ℕ) → List (List ℕ)
-one_more None = []
-one_more (Some value) = value ∷ []
 
 abbrev pub added_list : Option (List ℕ) → List (List ℕ)
 added_list None = []
@@ -79,22 +70,19 @@ drop-drop n (suc k) (x ∷ xs) = drop-drop n k xs ∙ ap (λ (i : ℕ). drop i (
 
 -- ---- appending
 
--- a log that takes a value where it is named
-abbrev named_takes : List ℕ → List LogId → LogState → LogState
-named_takes value named log = if has_log named log.id.0 then record log { values = log.values ++ value ∷ [] } else log
-
-take-log : (log : LogId) (ans : List Answered) (a : Answered) (value : List ℕ) (named : List LogId) (t : Bool) → trim_of log ans ≤ length (values_of log ans) →
+-- a log takes a value where it is named
+take-log : (log : LogId) (ans : List Answered) (a : Answered) (value : List ℕ) (t : Bool) → trim_of log ans ≤ length (values_of log ans) →
     adds log a ≡ (if t then Some value else None) → cut_of log a.command a.reply ≡ 0 →
     (if t then record (log_of log ans) { values = (log_of log ans).values ++ value ∷ [] } else log_of log ans) ≡ log_of log (ans ++ a ∷ [])
-take-log log ans a value named true kept e f = sym (more-log log ans a value kept e f)
-take-log log ans a value named false kept e f = sym (same-log log ans a e f)
+take-log log ans a value true kept e f = sym (more-log log ans a value kept e f)
+take-log log ans a value false kept e f = sym (same-log log ans a e f)
 
 pub takes-list : (ids : List LogId) (ans : List Answered) (a : Answered) (value : List ℕ) (named : List LogId) → ((log : LogId) → trim_of log ans ≤ length (values_of log ans)) →
     ((log : LogId) → adds log a ≡ (if has_log named log.0 then Some value else None)) → ((log : LogId) → cut_of log a.command a.reply ≡ 0) →
     with_value value named (map (λ (log : LogId). log_of log ans) ids) ≡ map (λ (log : LogId). log_of log (ans ++ a ∷ [])) ids
 takes-list [] ans a value named kept e f = refl
 takes-list (log ∷ ids) ans a value named kept e f =
-    ap₂ (λ (x : LogState) (xs : List LogState). x ∷ xs) (take-log log ans a value named (has_log named log.0) (kept log) (e log) (f log)) (takes-list ids ans a value named kept e f)
+    ap₂ (λ (x : LogState) (xs : List LogState). x ∷ xs) (take-log log ans a value (has_log named log.0) (kept log) (e log) (f log)) (takes-list ids ans a value named kept e f)
 
 -- ---- trimming
 

@@ -1,10 +1,8 @@
 -- Numbers of clients: what was shown, and what counts.
-use Rattle.std.proofs.Common.{arith, ◌≡◌, ◌<◌, ℕ, ◌+◌, ◌==◌, nat_lt, nat_le, Bool, true, false, not, ◌&&◌, ◌||◌, if◌then◌else◌, List, [], ◌∷◌, ◌++◌, Option, Some, None, refl, sym, ap, ◌∙◌, subst, append_assoc, append-nil, true≢false}
-use Rattle.std.specs.Prelude.{find, is_some, unwrap_or}
-use Rattle.std.proofs.Math.Path.{ap₂}
+use Rattle.std.proofs.Common.{arith, ◌≡◌, ℕ, ◌==◌, nat_le, Bool, true, false, ◌&&◌, ◌||◌, if◌then◌else◌, List, [], ◌∷◌, ◌++◌, Option, Some, None, refl, sym, ap, ◌∙◌, subst, append_assoc, append-nil, true≢false}
+use Rattle.std.specs.Prelude.{find, unwrap_or}
 use Rattle.mrp_types.specs.declared.id.ClientId.{ClientId}
 use Rattle.mrp_types.specs.declared.value.Entry.{Entry}
-use Rattle.command_codec.specs.declared.command.Command.{Command}
 use Rattle.mrp_config.specs.declared.tables.PartitionTable.{PartitionTable}
 use Rattle.plain_model.specs.Fold.{Answered, command_for, concerns, has_shown, counts_after, first_if, counted_after, counted_entries, with_answer, answered_after, answered_of, last_of, is_of, clients_after, clients_of, with_client}
 use Rattle.plain_model.proofs.FoldServices.{Kept}

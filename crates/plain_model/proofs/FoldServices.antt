@@ -1,8 +1,6 @@
 -- The services take a command as the plain lists say.
-use Rattle.std.proofs.Common.{arith, ◌≡◌, ◌<◌, ◌≤◌, ◌⊎◌, inl, inr, ℕ, zero, suc, ◌+◌, max, ◌==◌, nat_lt, nat_le, Bool, true, false, if◌then◌else◌, List, [], ◌∷◌, ◌++◌, length, Option, Some, None, refl, sym, ap, ◌∙◌, subst, append-nil, true≢false}
-use Rattle.std.specs.Prelude.{map, bytes_eq, is_some, not}
-use Rattle.std.proofs.Math.Path.{ap₂}
-use Rattle.std.proofs.lemmas.List.{length-append}
+use Rattle.std.proofs.Common.{◌≡◌, ◌≤◌, ℕ, ◌==◌, nat_lt, Bool, true, false, if◌then◌else◌, List, [], ◌∷◌, ◌++◌, length, Option, Some, None, refl, sym, ap, ◌∙◌}
+use Rattle.std.specs.Prelude.{bytes_eq, is_some, not}
 use Rattle.mrp_types.specs.declared.id.LogId.{LogId}
 use Rattle.mrp_types.specs.declared.value.Entry.{Entry}
 use Rattle.command_codec.specs.declared.command.Command.{Command}
@@ -11,12 +9,11 @@ use Rattle.command_codec.specs.declared.reply.Reply.{Reply}
 use Rattle.command_codec.specs.declared.reply.TableEntry.{TableEntry}
 use Rattle.command_codec.specs.declared.reply.Reply.TheVariants as replies
 use Rattle.mrp_config.specs.declared.tables.PartitionTable.{PartitionTable}
-use Rattle.mrp_config.specs.Config.{has_log}
 use Rattle.mrp_config.specs.Routing.{is_concerned}
-use Rattle.plain_model.specs.Replicas.{LogState, Effect, log_length, log_at, with_log, with_value, trimmed_to, value_of, without, with_entry, effect_of, told, trimming, updating, inserting, deleting, read_at}
-use Rattle.plain_model.specs.Fold.{Answered, is_limit, is_done, added_to, values_of, cut_of, trim_of, log_of, logs_of, left_under, left_by, or_before, held_after, held_under, with_key, with_key_of, key_of_command, key_brought, keys_after, keys_of, table_of, reply_with_room, trim_reply, done_where}
-use Rattle.plain_model.proofs.FoldLogs.{adds, added_list, values-snoc, trim-snoc, same-list, takes-list, cuts-list, log-at, length-kept, number_is}
-use Rattle.plain_model.proofs.FoldTable.{table_by, Rise, Has, rise_with, has_with, has_still, with_has, with-entry, without-by, alike, value-by, same_bytes, bytes_turned}
+use Rattle.plain_model.specs.Replicas.{LogState, log_length, log_at, with_log, trimmed_to, value_of, without, with_entry, effect_of, told, updating, inserting, deleting, read_at}
+use Rattle.plain_model.specs.Fold.{Answered, is_limit, is_done, values_of, trim_of, logs_of, left_by, or_before, held_after, held_under, with_key, with_key_of, key_brought, keys_after, keys_of, table_of, reply_with_room, trim_reply, done_where}
+use Rattle.plain_model.proofs.FoldLogs.{same-list, takes-list, cuts-list, log-at}
+use Rattle.plain_model.proofs.FoldTable.{table_by, Rise, Has, with_has, with-entry, without-by, alike, value-by, bytes_turned}
 
 -- what the lists of answered entries keep to
 pub record Kept (ans : List Answered) : Type 0 where

@@ -1,6 +1,6 @@
 -- Tables as keys in increasing order with what a function gives each of them.
-use Rattle.std.proofs.Common.{arith, ◌≡◌, ◌⊎◌, inl, inr, ℕ, Bool, true, false, not, if◌then◌else◌, List, [], ◌∷◌, ◌++◌, Option, Some, None, refl, sym, ap, ◌∙◌, subst, true≢false}
-use Rattle.std.specs.Prelude.{map, filter, filter_map, option_map, bytes_eq, is_some}
+use Rattle.std.proofs.Common.{arith, ◌≡◌, ◌⊎◌, inl, inr, ℕ, Bool, true, false, not, if◌then◌else◌, List, [], ◌∷◌, Option, Some, None, refl, sym, ap, ◌∙◌, subst, true≢false}
+use Rattle.std.specs.Prelude.{filter_map, option_map, bytes_eq}
 use Rattle.std.specs.List.{cons_option}
 use Rattle.std.specs.Ordering.{nat_cmp, is_lt, is_eq, ordering_reverse}
 use Rattle.std.specs.Cmp.Lexicographic.{slice_cmp}
@@ -95,9 +95,6 @@ pub without-by : (f g : List ℕ → Option (List ℕ)) (keys : List (List ℕ))
 without-by f g [] key same = refl
 without-by f g (other ∷ keys) key same = by (f other) refl (bytes_eq other key) refl (without-by f g keys key same)
   where
-    made : List ℕ → TableEntry
-    made v = record { key = other; value = v }
-
     by : (o : Option (List ℕ)) → f other ≡ o → (t : Bool) → bytes_eq other key ≡ t → without key (table_by f keys) ≡ table_by g keys →
         without key (cons_option (option_map (λ (value : List ℕ). record { key = other; value = value }) o) (table_by f keys)) ≡
         cons_option (option_map (λ (value : List ℕ). record { key = other; value = value }) (g other)) (table_by g keys)
@@ -143,9 +140,6 @@ put-first : (g : List ℕ → Option (List ℕ)) (keys : List (List ℕ)) (key v
 put-first g [] key value after = refl
 put-first g (other ∷ keys) key value after = by (g other) (put-first g keys key value after.1)
   where
-    new : TableEntry
-    new = record { key = key; value = value }
-
     by : (o : Option (List ℕ)) → put_in (record { key = key; value = value }) (table_by g keys) ≡ (record { key = key; value = value }) ∷ table_by g keys →
         put_in (record { key = key; value = value }) (cons_option (option_map (λ (v : List ℕ). record { key = other; value = v }) o) (table_by g keys)) ≡
         (record { key = key; value = value }) ∷ cons_option (option_map (λ (v : List ℕ). record { key = other; value = v }) o) (table_by g keys)

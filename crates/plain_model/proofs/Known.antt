@@ -1,12 +1,12 @@
 -- What is known of a book stays known as it grows.
-use Rattle.std.proofs.Common.{arith, ◌≡◌, ℕ, zero, suc, List, [], ◌∷◌, ◌++◌, Option, Some, None, refl, ap, ◌∙◌}
+use Rattle.std.proofs.Common.{arith, ◌≡◌, ℕ, zero, suc, List, ◌++◌, Option, Some, None, refl, ap, ◌∙◌}
 use Rattle.std.proofs.Math.Path.{ap₂}
 use Rattle.mrp_types.specs.declared.id.RingId.{RingId}
 use Rattle.mrp_types.specs.declared.value.Entry.{Entry}
 use Rattle.mrp_types.specs.declared.value.Value.{Value}
 use Rattle.mrp_types.specs.Book.{Learning, book_of}
 use Rattle.plain_model.specs.Tuples.{first_tuple, next_place, past}
-use Rattle.plain_model.specs.Fold.{entries_of_value, entries_in_book, entries_known, both_known, entries_of_next, entries_below, count_below, rings_of}
+use Rattle.plain_model.specs.Fold.{entries_in_book, entries_known, both_known, entries_of_next, entries_below, count_below, rings_of}
 use Rattle.plain_model.proofs.Fronts.{book_of-more}
 
 -- a value that the book has, it has as it grows

@@ -1,5 +1,5 @@
 -- The tuple of a place has below it the places that come before the place.
-use Rattle.std.proofs.Common.{arith, ◌≡◌, ◌<◌, ◌≤◌, ◌↔◌, inl, inr, ℕ, zero, suc, ◌+◌, ◌*◌, ◌/◌, ◌==◌, Bool, true, false, if◌then◌else◌, IsTrue, nat_lt, List, [], ◌∷◌, refl, sym, ap, true≢false, ◌∙◌, subst}
+use Rattle.std.proofs.Common.{arith, ◌≡◌, ◌<◌, ◌≤◌, ◌↔◌, inl, inr, ℕ, ◌+◌, ◌*◌, ◌/◌, ◌==◌, Bool, true, false, if◌then◌else◌, IsTrue, nat_lt, List, [], ◌∷◌, refl, sym, ap, true≢false, subst}
 use Rattle.std.proofs.Math.Nat.{div-lt_iff_lt-mul}
 use Rattle.std.proofs.lemmas.Bool.{cases_order}
 use Rattle.mrp_types.specs.declared.id.RingId.{RingId}
@@ -7,7 +7,7 @@ use Rattle.mrp_types.specs.declared.place.Place.{Place}
 use Rattle.mrp_types.specs.Places.{lt_then, place_lt}
 use Rattle.mrp_types.proofs.PlaceOrder.{in_one_order}
 use Rattle.mrp_config.specs.Config.{has_ring}
-use Rattle.plain_model.specs.Tuples.{count_before, tuple_at, is_valid_tuple, IsBelow, IsNotBelow, IsFront}
+use Rattle.plain_model.specs.Tuples.{count_before, tuple_at, is_valid_tuple, IsBelow, IsNotBelow}
 use Rattle.plain_model.proofs.TupleOrder.{not_before, before_not, front_is_valid, same_number, other_number}
 
 -- of two numbers that differ the rest decides nothing

@@ -1,5 +1,5 @@
 -- Worked examples of a client.
-use Rattle.std.specs.Prelude.{ℕ, false, List, [], ◌∷◌, ◌++◌, map, codes}
+use Rattle.std.specs.Prelude.{ℕ, false, List, [], ◌∷◌, ◌++◌, codes}
 use Rattle.mrp_types.specs.declared.id.NodeId.{NodeId}
 use Rattle.mrp_types.specs.declared.id.Party.TheVariants.{Node, Client}
 use Rattle.mrp_types.specs.declared.id.PartitionId.{PartitionId}
@@ -13,7 +13,6 @@ use Rattle.mrp_config.specs.Config.{Config}
 use Rattle.frames.specs.declared.body.Body.TheVariants as bodies
 use Rattle.frames.specs.declared.sent.Sent.{Sent}
 use Rattle.plain_model.specs.Rows.{ring, client, log, both_parts}
-use Rattle.protocol.specs.Lines.{Line}
 use Rattle.protocol.specs.Client.{ClientView, ClientDid, new_client, asks, client_ticks, client_takes}
 
 abbrev pub node : ℕ → NodeId
