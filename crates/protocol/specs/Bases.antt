@@ -1,12 +1,12 @@
 -- Where the learners of a node begin: below that nothing is kept.
-use Rattle.std.specs.Prelude.{ℕ, min, map, List, Option, Some, None, Bool, if◌then◌else◌}
+use Rattle.std.specs.Prelude.{ℕ, min, map, Option, Some, None, if◌then◌else◌}
 use Rattle.std.specs.Option.{unwrap_or}
 use Rattle.mrp_config.specs.Config.{has_ring}
 use Rattle.plain_model.specs.Tuples.{entry_at}
 use Rattle.protocol.specs.Parts.{Ring, Part}
 use Rattle.protocol.specs.Rings.{is_acceptor}
 use Rattle.protocol.specs.Learner.{with_base}
-use Rattle.protocol.specs.Node.{Acting, View, RingPart, Service, Stage, Recovering, Ready, Standing, Attempt}
+use Rattle.protocol.specs.Node.{Acting, RingPart, Service, Stage, Recovering, Ready}
 
 -- an acceptor keeps for others what it has not trimmed
 abbrev pub kept_from : Ring → Part → ℕ → ℕ

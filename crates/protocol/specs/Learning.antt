@@ -1,14 +1,14 @@
 -- What follows a rule of a ring: what it decided is learned, range by range, and each time the merge runs and the
 -- coordinator proposes.
-use Rattle.std.specs.Prelude.{ℕ, zero, suc, ◌^◌, List, [], ◌∷◌, ◌++◌, Option, Some, None, Bool, true, false, if◌then◌else◌}
+use Rattle.std.specs.Prelude.{ℕ, zero, suc, ◌^◌, List, [], ◌∷◌, ◌++◌, Option, Some, None, Bool, true, false}
 use Rattle.mrp_types.specs.declared.id.RingId.{RingId}
 use Rattle.mrp_types.specs.declared.voted.Decided.{Decided}
 use Rattle.mrp_config.specs.Config.{Config}
-use Rattle.protocol.specs.Lines.{Line, Learn}
-use Rattle.protocol.specs.Parts.{Ring, Part, Did}
+use Rattle.protocol.specs.Lines.{Learn}
+use Rattle.protocol.specs.Parts.{Ring, Did}
 use Rattle.protocol.specs.Learner.{Taken, learns}
 use Rattle.protocol.specs.Coordinator.{proposes}
-use Rattle.protocol.specs.Node.{Acting, View, RingPart, part_at, with_part, prints}
+use Rattle.protocol.specs.Node.{Acting, RingPart, part_at, with_part, prints}
 use Rattle.protocol.specs.Merging.{merges}
 
 -- what a rule added, and the part as it is then

@@ -1,6 +1,5 @@
 -- How a ready replica takes what was learned: place after place in the one order of its rings, and entry after entry.
-use Rattle.std.specs.Prelude.{ℕ, zero, suc, ◌+◌, ◌^◌, List, [], ◌∷◌, ◌++◌, map, Option, Some, None, Bool, if◌then◌else◌, nat_lt}
-use Rattle.std.specs.Option.{option_map_or}
+use Rattle.std.specs.Prelude.{ℕ, zero, suc, ◌+◌, ◌^◌, List, [], ◌∷◌, ◌++◌, map, Option, Some, None, if◌then◌else◌, nat_lt}
 use Rattle.mrp_types.specs.declared.id.NodeId.{NodeId}
 use Rattle.mrp_types.specs.declared.id.RingId.{RingId}
 use Rattle.mrp_types.specs.declared.id.Party.TheVariants.{Node, Client}
@@ -14,7 +13,6 @@ use Rattle.frames.specs.declared.body.Body.TheVariants.{Reply as ReplyFrame}
 use Rattle.plain_model.specs.Replicas.{AppliedAll, applies, entries_of_batch}
 use Rattle.plain_model.specs.Tuples.{round_sizes, next_place, past}
 use Rattle.protocol.specs.Lines.{Line, Deliver, Reply}
-use Rattle.protocol.specs.Parts.{Ring, Part}
 use Rattle.protocol.specs.Learner.{value_in}
 use Rattle.protocol.specs.Node.{Acting, View, RingPart, Service, Stage, Ready, Standing, part_at, with_stage, prints}
 

@@ -1,5 +1,5 @@
 -- A node: what it keeps, what may happen to it, and what it does in one step.
-use Rattle.std.specs.Prelude.{ℕ, List, [], ◌∷◌, ◌++◌, Option, Some, None, Bool, true, false, if◌then◌else◌, ◌==◌, length, map, nat_lt, ◌&&◌}
+use Rattle.std.specs.Prelude.{ℕ, List, [], ◌∷◌, ◌++◌, Option, Some, None, Bool, false, if◌then◌else◌, ◌==◌, nat_lt}
 use Rattle.mrp_types.specs.declared.id.NodeId.{NodeId}
 use Rattle.mrp_types.specs.declared.id.RingId.{RingId}
 use Rattle.frames.specs.declared.frame.Frame.{Frame}
@@ -9,7 +9,7 @@ use Rattle.disk_model.specs.declared.call.Call.{Call}
 use Rattle.disk_model.specs.Calls.{Told}
 use Rattle.gate_log.specs.Records.{end_of}
 use Rattle.gate_log.specs.Journal.{compact_calls}
-use Rattle.vote_journal.specs.Journal.{Journal, record_calls, recorded, recorded_end, compact_record, compacted_journal}
+use Rattle.vote_journal.specs.Journal.{Journal, record_calls, recorded, recorded_end, compact_record}
 use Rattle.ring_link.specs.Silence.{Link}
 use Rattle.mrp_config.specs.declared.tables.PartitionTable.{PartitionTable}
 use Rattle.checkpoint.specs.Checks.{Checks, save_calls}

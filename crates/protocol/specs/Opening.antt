@@ -1,17 +1,17 @@
 -- The opening of a node: what it knows when its journal and its checkpoint were read.
-use Rattle.std.specs.Prelude.{ℕ, List, [], ◌∷◌, filter, map, Option, Some, None, Bool, if◌then◌else◌}
+use Rattle.std.specs.Prelude.{List, [], ◌∷◌, Option, Some, None, if◌then◌else◌}
 use Rattle.mrp_types.specs.declared.id.NodeId.{NodeId}
 use Rattle.mrp_config.specs.Config.{Config, has_node}
 use Rattle.mrp_config.specs.declared.tables.RingTable.{RingTable}
 use Rattle.mrp_config.specs.declared.tables.PartitionTable.{PartitionTable}
 use Rattle.vote_state.specs.State.{State, ring_at}
 use Rattle.vote_journal.specs.Journal.{Journal}
-use Rattle.ring_link.specs.Silence.{Link, link_after}
+use Rattle.ring_link.specs.Silence.{link_after}
 use Rattle.checkpoint.specs.Checks.{Checks}
 use Rattle.protocol.specs.Parts.{Ring}
 use Rattle.protocol.specs.Rings.{ring_of, is_member}
 use Rattle.protocol.specs.Learner.{new_part}
-use Rattle.protocol.specs.Node.{View, RingPart, Service, Recovering, Stepped, begun_with, finished, Acting}
+use Rattle.protocol.specs.Node.{View, RingPart, Recovering, Stepped, begun_with, finished, Acting}
 use Rattle.protocol.specs.Recovery.{begins}
 use Rattle.protocol.specs.Bases.{rebases}
 

@@ -1,6 +1,6 @@
 -- How a replica becomes ready: attempt after attempt it asks the others for the newest checkpoint of a quorum, chooses the
 -- greatest, gathers its bytes part by part, and goes on from there.
-use Rattle.std.specs.Prelude.{ℕ, ◌+◌, ◌-◌, ◌^◌, List, [], ◌∷◌, ◌++◌, length, map, filter, Option, Some, None, Bool, true, false, not, if◌then◌else◌, ◌==◌, nat_lt, nat_le, ◌&&◌, ◌||◌, min}
+use Rattle.std.specs.Prelude.{ℕ, ◌+◌, ◌-◌, ◌^◌, List, [], ◌∷◌, ◌++◌, length, map, filter, Option, Some, None, Bool, not, if◌then◌else◌, ◌==◌, nat_lt, nat_le, ◌&&◌, ◌||◌, min}
 use Rattle.std.specs.List.{flat_map}
 use Rattle.std.specs.Option.{unwrap_or}
 use Rattle.mrp_types.specs.declared.id.NodeId.{NodeId}
@@ -11,15 +11,15 @@ use Rattle.mrp_config.specs.declared.tables.PartitionTable.{PartitionTable}
 use Rattle.frames.specs.declared.sent.Sent.{Sent}
 use Rattle.frames.specs.declared.body.Body.{Body}
 use Rattle.frames.specs.declared.body.Body.TheVariants.{AskCheckpoint, HaveCheckpoint, AskPart, Part as PartFrame, Gone as GoneFrame}
-use Rattle.checkpoint.specs.Checks.{Checks, Checkpoint, PartAnswer, Part as PartOf, Gone, Unknown, part_of, is_same_tuple, is_after}
+use Rattle.checkpoint.specs.Checks.{Checkpoint, PartAnswer, Part as PartOf, Gone, Unknown, part_of, is_same_tuple, is_after}
 use Rattle.plain_model.specs.Replicas.{Replica, empty_replica}
 use Rattle.plain_model.specs.StateBytes.{state_of}
 use Rattle.plain_model.specs.Tuples.{round_sizes, first_tuple, is_tuple_of, entry_at, instances}
-use Rattle.protocol.specs.Lines.{Line, Begin, Chose, Restore, Refuse, AttemptLimit}
+use Rattle.protocol.specs.Lines.{Begin, Chose, Restore, Refuse, AttemptLimit}
 use Rattle.protocol.specs.Rings.{by_id, sends_to}
 use Rattle.protocol.specs.Learner.{lowered}
 use Rattle.protocol.specs.Trimming.{has_answered}
-use Rattle.protocol.specs.Node.{Acting, View, RingPart, Service, Stage, Recovering, Ready, Standing, Attempt, Choice, with_stage, prints, sends_all}
+use Rattle.protocol.specs.Node.{Acting, View, RingPart, Service, Stage, Recovering, Ready, Attempt, Choice, with_stage, prints, sends_all}
 use Rattle.protocol.specs.Merging.{merges}
 
 -- ---- what is known of the own node

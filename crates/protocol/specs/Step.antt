@@ -1,30 +1,27 @@
 -- What a node does with a frame and with an order to lead, and a step as a whole.
-use Rattle.std.specs.Prelude.{ℕ, ◌-◌, ◌==◌, nat_lt, min, List, [], ◌∷◌, ◌++◌, map, Option, Some, None, Result, Ok, Err, Bool, true, false, if◌then◌else◌, ◌&&◌}
+use Rattle.std.specs.Prelude.{ℕ, ◌==◌, nat_lt, List, Option, Some, None, Result, Ok, Err, Bool, false, if◌then◌else◌, ◌&&◌}
 use Rattle.mrp_types.specs.declared.id.NodeId.{NodeId}
 use Rattle.mrp_types.specs.declared.id.RingId.{RingId}
 use Rattle.mrp_types.specs.declared.id.ClientId.{ClientId}
 use Rattle.mrp_types.specs.declared.id.Party.{Party}
 use Rattle.mrp_types.specs.declared.id.Party.TheVariants.{Node, Client}
-use Rattle.mrp_types.specs.declared.id.TheConstants.{END}
-use Rattle.mrp_config.specs.Config.{Config, has_ring}
+use Rattle.mrp_config.specs.Config.{Config}
 use Rattle.mrp_config.specs.declared.routing.NoGroup.{NoGroup}
 use Rattle.mrp_config.specs.Routing.{concerned_of, route_of}
 use Rattle.command_codec.specs.declared.command.Command.{Command}
 use Rattle.command_codec.specs.declared.fault.CodecFault.{CodecFault}
 use Rattle.command_codec.specs.Grammar.{command_of}
-use Rattle.frames.specs.declared.frame.Frame.{Frame}
 use Rattle.frames.specs.declared.body.Body.{Body}
 use Rattle.frames.specs.declared.body.Body.TheVariants.{Submit, Prepare, Promise, Refuse, Accept, Decide, Fetch, Chosen, Trimmed, AskSafe, Safe, TrimTo, AskCheckpoint, HaveCheckpoint, AskPart, Part as PartFrame, Gone, Reply, Hello}
 use Rattle.ring_link.specs.Silence.{with_heard}
-use Rattle.checkpoint.specs.Checks.{Checkpoint}
-use Rattle.protocol.specs.Parts.{Ring, Part, Did, Learner}
+use Rattle.protocol.specs.Parts.{Ring, Part}
 use Rattle.protocol.specs.Rings.{is_acceptor, sends_to}
 use Rattle.protocol.specs.Acceptor.{prepares, accepts, fetches}
 use Rattle.protocol.specs.Coordinator.{leads, promised, refused, submits}
-use Rattle.protocol.specs.Learner.{decided, chosen, with_base}
+use Rattle.protocol.specs.Learner.{decided, chosen}
 use Rattle.protocol.specs.Trimming.{trimmed, answers}
-use Rattle.protocol.specs.Node.{Acting, View, RingPart, Service, Stage, Recovering, Ready, Standing, Attempt, Event, Ticks, Takes, Leads, Stepped, begun_with, finished, part_at, with_view, sends_all}
-use Rattle.protocol.specs.Merging.{place_of, value_at_place}
+use Rattle.protocol.specs.Node.{Acting, View, RingPart, Service, Stage, Recovering, Ready, Attempt, Event, Ticks, Takes, Leads, Stepped, begun_with, finished, part_at, sends_all}
+use Rattle.protocol.specs.Merging.{place_of}
 use Rattle.protocol.specs.Recovery.{begins, answered_by, takes_part, takes_gone, tells_checkpoint, tells_part, safe_of}
 use Rattle.protocol.specs.Bases.{rebases}
 use Rattle.protocol.specs.Learning.{does}

@@ -1,23 +1,22 @@
 -- What a node does at a tick: the first of three rules that applies.
-use Rattle.std.specs.Prelude.{ℕ, ◌+◌, ◌-◌, ◌*◌, ◌/◌, ◌%◌, ◌^◌, ◌==◌, nat_lt, nat_le, List, [], ◌∷◌, ◌++◌, length, map, filter, Option, Some, None, Bool, true, false, not, if◌then◌else◌, ◌&&◌, ◌||◌, slice_get}
+use Rattle.std.specs.Prelude.{ℕ, ◌+◌, ◌-◌, ◌*◌, ◌/◌, ◌%◌, ◌^◌, ◌==◌, nat_lt, nat_le, List, [], ◌∷◌, length, filter, Option, Some, None, Bool, not, if◌then◌else◌, ◌&&◌, slice_get}
 use Rattle.std.specs.List.{flat_map, list_any}
 use Rattle.mrp_types.specs.declared.id.NodeId.{NodeId}
 use Rattle.mrp_types.specs.declared.id.RingId.{RingId}
 use Rattle.mrp_config.specs.Config.{Config, has_node}
 use Rattle.mrp_config.specs.declared.tables.NodeTable.{NodeTable}
-use Rattle.frames.specs.declared.sent.Sent.{Sent}
 use Rattle.frames.specs.declared.body.Body.TheVariants.{Fetch, Hello}
 use Rattle.ring_link.specs.Silence.{with_tick}
 use Rattle.vote_journal.specs.Journal.{compacted_journal}
 use Rattle.plain_model.specs.StateBytes.{state_bytes}
 use Rattle.plain_model.specs.Tuples.{instances}
 use Rattle.checkpoint.specs.Checks.{saved}
-use Rattle.protocol.specs.Lines.{Line, Saved}
+use Rattle.protocol.specs.Lines.{Saved}
 use Rattle.protocol.specs.Parts.{Ring, Part, Did}
 use Rattle.protocol.specs.Rings.{is_acceptor, sends, sends_to}
 use Rattle.protocol.specs.Coordinator.{is_active, starts_on_tick, resends, levels}
 use Rattle.protocol.specs.Trimming.{asks_round}
-use Rattle.protocol.specs.Node.{Acting, View, RingPart, Service, Stage, Recovering, Ready, Standing, Attempt, Stepped, Nothing, Records, Saves, Compacts, begun_with, finished, part_at, with_view, with_stage, sends_all}
+use Rattle.protocol.specs.Node.{Acting, View, RingPart, Service, Stage, Recovering, Ready, Standing, Stepped, Saves, Compacts, begun_with, finished, part_at, sends_all}
 use Rattle.protocol.specs.Merging.{place_of}
 use Rattle.protocol.specs.Recovery.{recovery_ticks, safe_of}
 use Rattle.protocol.specs.Learning.{does}
