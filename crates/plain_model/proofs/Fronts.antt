@@ -38,7 +38,7 @@ first_or : (t : Bool) (value known : Value) (some more : Option Value) → (some
 first_or true value known some more step h = h
 first_or false value known some more step h = step h
 
-book_of-more : (xs ys : List Learning) (ring : RingId) (inst : ℕ) (known : Value) → book_of xs ring inst ≡ Some known → book_of (xs ++ ys) ring inst ≡ Some known
+pub book_of-more : (xs ys : List Learning) (ring : RingId) (inst : ℕ) (known : Value) → book_of xs ring inst ≡ Some known → book_of (xs ++ ys) ring inst ≡ Some known
 book_of-more [] ys ring inst known h = absurd (grind arith)
 book_of-more (x ∷ xs) ys ring inst known h =
     first_or (covers x ring inst) x.value known (book_of xs ring inst) (book_of (xs ++ ys) ring inst) (book_of-more xs ys ring inst known) h

@@ -1,1 +1,12 @@
 pub mod Fronts
+pub mod TupleOrder
+pub mod SizeLaws
+pub mod TupleAt
+pub mod Known
+pub mod FoldLogs
+pub mod FoldTable
+pub mod FoldServices
+pub mod FoldKept
+pub mod FoldSessions
+pub mod FoldNumbers
+pub mod FoldLaw

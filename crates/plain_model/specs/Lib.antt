@@ -1,2 +1,7 @@
 pub mod Lines
 pub mod Faithful
+pub mod Tuples
+pub mod Replicas
+pub mod StateBytes
+pub mod Fold
+pub mod Rows

@@ -1,8 +1,17 @@
 //! What lines of a system have to say, whatever made them: definitions and laws that know no ballot and no frame.
 //!
 //! `specs/Faithful.antt` has the rules of lines by their printed names, `specs/Lines.antt` what they read of the
-//! lines before.
+//! lines before. `specs/Fold.antt` says what a partition's entries mean, over plain lists: which count, what the logs
+//! and the table hold, what is replied, the state, and a client's answer. `specs/Replicas.antt` has the same as a
+//! replica keeps it, entry by entry, `specs/StateBytes.antt` its written form, and `specs/Tuples.antt` how far a
+//! partition has come. `rows` has worked examples.
 #![tactic(auto)]
+
+mod fold_laws;
+mod known_laws;
+mod rows;
+mod size_laws;
+mod tuple_laws;
 
 ghost use Rattle.std.specs.Prelude.{◌≡◌, ◌++◌, List, ℕ, Some};
 ghost use Rattle.mrp_types.specs.declared.value.Value.{Value};
@@ -10,6 +19,21 @@ ghost use Rattle.mrp_types.specs.declared.id.RingId.{RingId};
 ghost use Rattle.transcript.specs.declared.line.Line.{Line};
 ghost use Rattle.plain_model.specs.Lines.{book};
 ghost use Rattle.plain_model.specs.Faithful.{Order, IsFaithful};
+
+pub use fold_laws::{replicas_keep_what_the_lists_say, replicas_reply_what_the_lists_say};
+pub use known_laws::entries_below_stay;
+pub use rows::{
+    a_larger_state, a_next_place, a_page, a_replica, a_state, a_state_read, a_state_written,
+    a_tuple_at, an_answer, an_append, five_places, its_replies, no_room, no_room_for_values,
+    no_states, other_answers, the_fold, the_replies, what_is_left, what_is_not_known,
+    what_stands_below, which_are_valid,
+};
+pub use size_laws::{pages_are_longest_fronts, pages_are_short, sizes_are_written_bytes};
+pub use tuple_laws::{
+    moves_keep_tuples_valid, past_adds_the_next_place, past_leaves_the_others,
+    the_next_place_is_an_entry, the_next_place_is_first, tuples_of_places_are_valid,
+    valid_tuples_are_fronts, what_comes_before_is_below, what_is_below_comes_before,
+};
 
 /// Every front of a faithful list of lines is faithful.
 pub fn fronts_are_faithful()

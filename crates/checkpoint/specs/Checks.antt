@@ -1,0 +1,154 @@
+-- The pair of areas that holds a node's newest checkpoint: what it stands for, and the calls of a save.
+use Rattle.std.specs.Prelude.{ℕ, ◌+◌, ◌==◌, nat_lt, ◌&&◌, ◌||◌, Bool, true, false, if◌then◌else◌, List, [], ◌∷◌, length, take, drop, Option, Some, None, Result, Ok, Err}
+use Rattle.std.specs.Int.{w64}
+use Rattle.mrp_types.specs.declared.id.RingId.{RingId}
+use Rattle.disk_model.specs.declared.area.Area.{Area}
+use Rattle.disk_model.specs.declared.area.Area.TheVariants.{Journal0, Journal1, Check2, Check3}
+use Rattle.disk_model.specs.declared.areas.Areas.{Areas}
+use Rattle.disk_model.specs.declared.call.Call.{Call}
+use Rattle.disk_model.specs.Areas.{bytes_of}
+use Rattle.disk_model.specs.Calls.{Told}
+use Rattle.gate_area.specs.declared.pair.Pair.TheVariants.{Check}
+use Rattle.gate_area.specs.Standing.{stands}
+use Rattle.gate_log.specs.Journal.{renew_calls}
+use Rattle.command_codec.specs.declared.fault.CodecFault.{CodecFault}
+use Rattle.command_codec.specs.declared.fault.CodecFault.TheVariants.{Short, BadKind, BadField, TooLong, Left, Memory}
+use Rattle.command_codec.specs.Reader.{Reader, number_at, bytes_at, follow, both, shown}
+use Rattle.frames.specs.Spelling.{tuple_bytes}
+use Rattle.frames.specs.Grammar.{tuple_at, all_of, part_of as part_size}
+use Rattle.checkpoint.specs.Spelling.{checkpoint_body}
+
+-- a checkpoint: where a replica stood in each of its rings, and the bytes of its state there
+pub record Checkpoint : Type 0 where
+  pub tuple : List (RingId × ℕ)
+  pub state : List ℕ
+
+-- The pair as its callers see it: the area that stands and its generation, 0 where none does, and the checkpoint in it.
+pub record Checks : Type 0 where
+  pub area : Option Area
+  pub generation : ℕ
+  pub newest : Option Checkpoint
+
+-- no area stands
+abbrev pub no_checks : Checks
+no_checks = record { area = None; generation = 0; newest = None }
+
+-- ---- what an area's bytes are
+
+abbrev pub checkpoint_of : List (RingId × ℕ) × (ℕ × List ℕ) → Checkpoint
+checkpoint_of x = record { tuple = x.0; state = x.1.1 }
+
+-- a tuple, a length, and so many bytes
+unfoldable pub checkpoint_at : Reader Checkpoint
+checkpoint_at = shown checkpoint_of (both tuple_at (follow (number_at w64) bytes_at))
+
+-- where the first field at fault begins; a byte left over is at fault where it stands
+abbrev pub place_of : CodecFault → ℕ
+place_of (Short at) = at
+place_of (BadKind at) = at
+place_of (BadField at) = at
+place_of (TooLong at) = at
+place_of (Left at) = at
+place_of Memory = 0
+
+abbrev pub placed : Result Checkpoint CodecFault → Result Checkpoint ℕ
+placed (Ok newest) = Ok newest
+placed (Err fault) = Err (place_of fault)
+
+-- the checkpoint in an area that stands, from byte 16 on, or the damaged place of it
+abbrev pub read_area : List ℕ → Result Checkpoint ℕ
+read_area file = placed (all_of checkpoint_at (record { at = 16; rest = drop 16 file }))
+
+-- the pair by the area that stands
+abbrev pub checks_at : Area → ℕ → Result Checkpoint ℕ → Result Checks (Area × ℕ)
+checks_at area generation (Ok newest) = Ok (record { area = Some area; generation = generation; newest = Some newest })
+checks_at area generation (Err at) = Err (area, at)
+
+abbrev pub checks_of : Areas → Result (Option (Area × ℕ)) (Area × ℕ) → Result Checks (Area × ℕ)
+checks_of areas (Err spot) = Err spot
+checks_of areas (Ok None) = Ok no_checks
+checks_of areas (Ok (Some (area, generation))) = checks_at area generation (read_area (bytes_of area areas))
+
+-- what the areas of the checkpoints stand for, or which place of which area is damaged
+abbrev pub checks_in : Areas → Result Checks (Area × ℕ)
+checks_in areas = checks_of areas (stands Check areas)
+
+-- ---- a save
+
+-- the area that doesn't stand, the first one where none does
+abbrev pub next_area : Option Area → Area
+next_area None = Check2
+next_area (Some Journal0) = Check2
+next_area (Some Journal1) = Check2
+next_area (Some Check2) = Check3
+next_area (Some Check3) = Check2
+
+-- the area that doesn't stand is retired and founded with the checkpoint and the next generation
+abbrev pub save_calls : Checks → List (RingId × ℕ) → List ℕ → Told → List Call
+save_calls checks tuple state = renew_calls (next_area checks.area) (checkpoint_body (checks.generation + 1) tuple state)
+
+-- the pair once that is done
+abbrev pub saved : Checks → List (RingId × ℕ) → List ℕ → Checks
+saved checks tuple state = record {
+  area = Some (next_area checks.area);
+  generation = checks.generation + 1;
+  newest = Some (record { tuple = tuple; state = state });
+}
+
+-- ---- questions
+
+abbrev pub tuple_of_newest : Option Checkpoint → Option (List (RingId × ℕ))
+tuple_of_newest None = None
+tuple_of_newest (Some newest) = Some newest.tuple
+
+-- the tuple of the newest checkpoint, where there is one
+abbrev pub newest_tuple : Checks → Option (List (RingId × ℕ))
+newest_tuple checks = tuple_of_newest checks.newest
+
+-- the positions at which the tuple and the state of the checkpoint in an area begin
+abbrev pub places_in : Option Area → Option Checkpoint → Option (Area × ℕ × ℕ)
+places_in None newest = None
+places_in (Some area) None = None
+places_in (Some area) (Some newest) = Some (area, 16, 24 + length (tuple_bytes newest.tuple))
+
+-- the area that stands, and where its tuple and its state begin
+abbrev pub place : Checks → Option (Area × ℕ × ℕ)
+place checks = places_in checks.area checks.newest
+
+-- whether two tuples have the same instances, ring by ring; the rings are taken to be the same
+abbrev pub is_same_tuple : List (RingId × ℕ) → List (RingId × ℕ) → Bool
+is_same_tuple [] [] = true
+is_same_tuple [] (y ∷ ys) = false
+is_same_tuple (x ∷ xs) [] = false
+is_same_tuple (x ∷ xs) (y ∷ ys) = (x.1 == y.1) && is_same_tuple xs ys
+
+-- Whether the second tuple is after the first one. Both are of the same rings, and each has the places up to one in the
+-- one order, so the second is after the first where it is greater at a ring.
+abbrev pub is_after : List (RingId × ℕ) → List (RingId × ℕ) → Bool
+is_after [] ys = false
+is_after (x ∷ xs) [] = false
+is_after (x ∷ xs) (y ∷ ys) = nat_lt x.1 y.1 || is_after xs ys
+
+-- what is answered to who asks for a part of a checkpoint
+pub data PartAnswer : Type 0 where
+  -- how many bytes the state has, and those from the offset on, at most 16,384
+  Part : (total : ℕ) → (bytes : List ℕ) → PartAnswer
+  -- a newer checkpoint took its place
+  Gone : (newer : List (RingId × ℕ)) → PartAnswer
+  Unknown : PartAnswer
+
+-- the bytes of a part, of a state of so many bytes
+abbrev pub part_at : ℕ → ℕ → List ℕ → PartAnswer
+part_at total offset state = if nat_lt offset total then Part total (take (part_size (offset, total)) (drop offset state)) else Unknown
+
+abbrev pub part_in : Option Checkpoint → List (RingId × ℕ) → ℕ → PartAnswer
+part_in None tuple offset = Unknown
+part_in (Some newest) tuple offset =
+    if is_after tuple newest.tuple then Gone newest.tuple
+    else if is_same_tuple tuple newest.tuple then part_at (length newest.state) offset newest.state
+    else Unknown
+
+-- The part of the checkpoint of a tuple from an offset on. Where the newest one is after that tuple it is gone; it is unknown
+-- where the tuple isn't the newest one's, and where no byte stands at the offset.
+abbrev pub part_of : Checks → List (RingId × ℕ) → ℕ → PartAnswer
+part_of checks tuple offset = part_in checks.newest tuple offset

@@ -1,0 +1,58 @@
+//! What tuples have to do with the one order of places.
+
+ghost use Rattle.std.specs.Prelude.{◌≡◌, ◌<◌, ◌≤◌, ◌⊎◌, ◌↔◌, ◌∷◌, [], ℕ, List, true, IsTrue};
+ghost use Rattle.mrp_types.specs.declared.id.RingId.{RingId};
+ghost use Rattle.mrp_types.specs.declared.place.Place.{Place};
+ghost use Rattle.mrp_types.specs.Places.{place_lt};
+ghost use Rattle.mrp_config.specs.Config.{has_ring};
+ghost use Rattle.plain_model.specs.Tuples.{place_of, next_place, past, past_many, first_tuple, tuple_at, is_valid_tuple, IsOneOf, IsBelow, IsNotBelow, IsFront};
+
+/// The next place is where a ring of the tuple goes on.
+pub fn the_next_place_is_an_entry()
+    ensures { (m : ℕ → ℕ) (x : RingId × ℕ) (pairs : List (RingId × ℕ)) → IsOneOf (next_place m (x ∷ pairs)) (x ∷ pairs) }
+{}
+
+/// No place that isn't below the tuple comes before its next place.
+pub fn the_next_place_is_first()
+    ensures { (m : ℕ → ℕ) (tuple : List (RingId × ℕ)) (place : Place) → IsNotBelow place tuple →
+        IsTrue (place_lt m place (place_of (next_place m tuple))) → ⊥ }
+{}
+
+/// A tuple is valid exactly where each place below it comes before each that isn't.
+pub fn valid_tuples_are_fronts()
+    ensures { (m : ℕ → ℕ) (tuple : List (RingId × ℕ)) → (is_valid_tuple m tuple ≡ true) ↔ IsFront m tuple }
+{}
+
+/// The next place comes below with a move past it, and nothing else does.
+pub fn past_adds_the_next_place()
+    ensures { (m : ℕ → ℕ) (x : RingId × ℕ) (pairs : List (RingId × ℕ)) (place : Place) → IsBelow place (past m (x ∷ pairs)) →
+        IsBelow place (x ∷ pairs) ⊎ (place ≡ place_of (next_place m (x ∷ pairs))) }
+{}
+
+/// What a move past the next place leaves not below wasn't below before, and is another place.
+pub fn past_leaves_the_others()
+    ensures { (m : ℕ → ℕ) (x : RingId × ℕ) (pairs : List (RingId × ℕ)) (place : Place) → IsNotBelow place (past m (x ∷ pairs)) →
+        IsNotBelow place (x ∷ pairs) × (place ≡ place_of (next_place m (x ∷ pairs)) → ⊥) }
+{}
+
+/// Whatever a number of moves leaves of the first tuple is valid.
+pub fn moves_keep_tuples_valid()
+    ensures { (m : ℕ → ℕ) (n : ℕ) (rings : List RingId) → is_valid_tuple m (past_many m n (first_tuple rings)) ≡ true }
+{}
+
+/// What is below the tuple of a place comes before the place.
+pub fn what_is_below_comes_before()
+    ensures { (m : ℕ → ℕ) (rings : List RingId) (place below : Place) → ((r : ℕ) → 0 < m r) → IsBelow below (tuple_at m rings place) →
+        IsTrue (place_lt m below place) }
+{}
+
+/// Each place of the rings that comes before a place is below its tuple.
+pub fn what_comes_before_is_below()
+    ensures { (m : ℕ → ℕ) (rings : List RingId) (place before : Place) → ((r : ℕ) → 0 < m r) → has_ring rings before.ring.0 ≡ true →
+        IsTrue (place_lt m before place) → IsBelow before (tuple_at m rings place) }
+{}
+
+/// The tuple of a place is valid.
+pub fn tuples_of_places_are_valid()
+    ensures { (m : ℕ → ℕ) (rings : List RingId) (place : Place) → ((r : ℕ) → 0 < m r) → is_valid_tuple m (tuple_at m rings place) ≡ true }
+{}

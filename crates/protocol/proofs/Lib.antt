@@ -1,0 +1,7 @@
+pub mod PageLemmas
+pub mod EntryLemmas
+pub mod BallotLemmas
+pub mod CoverLemmas
+pub mod RunLemmas
+pub mod RoundLemmas
+pub mod RangeLemmas

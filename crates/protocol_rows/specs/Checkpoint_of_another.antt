@@ -1,0 +1,42 @@
+-- A replica whose disk has no checkpoint restores the one that another saved.
+use Rattle.std.specs.Prelude.{List, [], ◌∷◌, Some}
+use Rattle.command_codec.specs.declared.command.Command.TheVariants as command
+use Rattle.disk_model.specs.declared.area.Image.TheVariants as image
+use Rattle.protocol.specs.Lines.{Line}
+use Rattle.protocol.specs.Lines as line
+use Rattle.world_model.specs.Events.{ScheduleEvent}
+use Rattle.world_model.specs.Events as event
+use Rattle.protocol_rows.specs.Words.{node, ring, client, log}
+
+abbrev pub schedule : List ScheduleEvent
+schedule =
+    event.Flow 100 ∷
+    event.Lead (node 0) (ring 0) ∷
+    event.Flow 100 ∷
+    event.Ask (client 0) (command.Append (log 0) (104 ∷ 105 ∷ [])) ∷
+    event.Flow 100 ∷
+    event.Ask (client 0) (command.Append (log 0) (111 ∷ 107 ∷ [])) ∷
+    event.Flow 100 ∷
+    event.TickNode (node 1) ∷
+    event.Crash (node 2) ∷
+    event.Restart (node 2) image.New ∷
+    event.Deliver 31 ∷
+    event.Deliver 32 ∷
+    event.Deliver 33 ∷
+    event.Deliver 34 ∷
+    event.Show (node 1) ∷
+    event.Show (node 2) ∷
+    []
+
+abbrev pub lines : List Line
+lines =
+    line.Saved (node 1) (2 ∷ []) ∷
+    line.Down (node 2) line.Crash ∷
+    line.Up (node 2) 2 ∷
+    line.Begin (node 2) 2 1 (0 ∷ []) ∷
+    line.Chose (node 2) 2 1 (2 ∷ []) (node 1) ∷
+    line.Restore (node 2) (2 ∷ []) ∷
+    line.State (node 1) (Some ((2 ∷ []), (0 ∷ 1 ∷ 0 ∷ 0 ∷ 0 ∷ 0 ∷ 0 ∷ 0 ∷ 0 ∷ 0 ∷ 2 ∷ 0 ∷ 0 ∷ 0 ∷ 11 ∷ 1 ∷ 1 ∷ 0 ∷ 0 ∷ 0 ∷ 0 ∷ 0 ∷ 0 ∷ 0 ∷ 0 ∷ 1 ∷ 1 ∷ 0 ∷ 0 ∷ 0 ∷ 0 ∷ 0 ∷ 0 ∷ 0 ∷ 0 ∷ 0 ∷ 0 ∷ 0 ∷ 0 ∷ 0 ∷ 0 ∷ 0 ∷ 0 ∷ 2 ∷ 0 ∷ 2 ∷ 104 ∷ 105 ∷ 0 ∷ 2 ∷ 111 ∷ 107 ∷ 0 ∷ 0 ∷ 0 ∷ 0 ∷ 0 ∷ 0 ∷ 0 ∷ 0 ∷ []))) ∷
+    line.State (node 2) (Some ((2 ∷ []), (0 ∷ 1 ∷ 0 ∷ 0 ∷ 0 ∷ 0 ∷ 0 ∷ 0 ∷ 0 ∷ 0 ∷ 2 ∷ 0 ∷ 0 ∷ 0 ∷ 11 ∷ 1 ∷ 1 ∷ 0 ∷ 0 ∷ 0 ∷ 0 ∷ 0 ∷ 0 ∷ 0 ∷ 0 ∷ 1 ∷ 1 ∷ 0 ∷ 0 ∷ 0 ∷ 0 ∷ 0 ∷ 0 ∷ 0 ∷ 0 ∷ 0 ∷ 0 ∷ 0 ∷ 0 ∷ 0 ∷ 0 ∷ 0 ∷ 0 ∷ 2 ∷ 0 ∷ 2 ∷ 104 ∷ 105 ∷ 0 ∷ 2 ∷ 111 ∷ 107 ∷ 0 ∷ 0 ∷ 0 ∷ 0 ∷ 0 ∷ 0 ∷ 0 ∷ 0 ∷ []))) ∷
+    line.End 16 ∷
+    []

@@ -1,0 +1,11 @@
+//! The same, and the state of a replica is shown.
+
+ghost use Rattle.std.specs.Prelude.{◌≡◌};
+ghost use Rattle.world_model.specs.Trace.{trace};
+ghost use Rattle.protocol_rows.specs.Three_nodes.{config};
+ghost use Rattle.protocol_rows.specs.One_state.{schedule, lines};
+
+/// These are all lines.
+pub fn prints()
+    ensures { trace config schedule ≡ lines }
+{}

@@ -1,0 +1,5 @@
+pub mod Events
+pub mod Disks
+pub mod Opening
+pub mod Worlds
+pub mod Trace

@@ -1,0 +1,153 @@
+-- The opening of a node on its areas: the device calls in order, and what they find.
+use Rattle.std.specs.Prelude.{ℕ, ◌+◌, ◌/◌, nat_lt, if◌then◌else◌, List, [], ◌∷◌, ◌++◌, length, map, replicate, Option, Some, None, Result, Ok, Err}
+use Rattle.mrp_types.specs.declared.id.NodeId.{NodeId}
+use Rattle.disk_model.specs.declared.area.Area.{Area}
+use Rattle.disk_model.specs.declared.area.Area.TheVariants.{Journal0}
+use Rattle.disk_model.specs.declared.areas.Areas.{Areas}
+use Rattle.disk_model.specs.declared.call.Call.TheVariants.{Sync}
+use Rattle.disk_model.specs.Areas.{bytes_of}
+use Rattle.disk_model.specs.Calls.{begun}
+use Rattle.gate_area.specs.declared.pair.Pair.TheVariants.{Journal as JournalPair, Check as CheckPair}
+use Rattle.gate_area.specs.Standing.{stands}
+use Rattle.gate_log.specs.Records.{walk_of}
+use Rattle.gate_log.specs.Journal.{Log, log_of, append_calls, appended, begin_calls}
+use Rattle.vote_state.specs.State.{State}
+use Rattle.vote_journal.specs.declared.fault.OpenFault.{OpenFault}
+use Rattle.vote_journal.specs.Journal.{Journal, state_of, opened_state, epoch_record}
+use Rattle.command_codec.specs.declared.fault.CodecFault.{CodecFault}
+use Rattle.mrp_config.specs.Config.{Config}
+use Rattle.mrp_config.specs.declared.tables.PartitionTable.{PartitionTable}
+use Rattle.plain_model.specs.Replicas.{Replica}
+use Rattle.plain_model.specs.StateBytes.{whole_state}
+use Rattle.plain_model.specs.Tuples.{round_sizes, is_tuple_of}
+use Rattle.checkpoint.specs.Checks.{Checks, Checkpoint, checks_of, place, place_of}
+use Rattle.protocol.specs.Lines.{Cause, Disk, Full}
+use Rattle.protocol.specs.Opening.{partition_of}
+use Rattle.world_model.specs.Disks.{Op, Reads, Does}
+
+-- the device calls of an opening in order, and what they find, or why the node stops where all of them passed
+pub record Opening (T : Type 0) : Type 0 where
+  pub work : List Op
+  pub result : Result T Cause
+
+-- ---- what is read
+
+-- a survey reads 17 bytes of each of its two areas
+abbrev pub survey : List Op
+survey = Reads ∷ Reads ∷ []
+
+-- an area is read in pieces of 65,536 bytes until one gives fewer
+abbrev pub readings : List ℕ → List Op
+readings file = replicate (length file / 65536 + 1) Reads
+
+-- the area that stands is read, where one does
+abbrev pub area_readings : Areas → Result (Option (Area × ℕ)) (Area × ℕ) → List Op
+area_readings areas (Err spot) = []
+area_readings areas (Ok None) = []
+area_readings areas (Ok (Some (area, generation))) = readings (bytes_of area areas)
+
+-- ---- the journal
+
+-- the journal as it was found: its log and its records
+pub record Found : Type 0 where
+  pub log : Log
+  pub records : List (List ℕ)
+
+abbrev pub found_in : Area → ℕ → ℕ → Result (List (List ℕ)) ℕ → Result Found Cause
+found_in area generation limit (Ok records) = Ok (record { log = log_of area generation limit records; records = records })
+found_in area generation limit (Err at) = Err Disk
+
+-- A fresh pair gets a journal without records, which isn't read. A byte that can't be there is a fault of the disk: none of
+-- what a node writes, and no image of it, has one.
+abbrev pub found_by : ℕ → Areas → Result (Option (Area × ℕ)) (Area × ℕ) → Result Found Cause
+found_by limit areas (Err spot) = Err Disk
+found_by limit areas (Ok None) = Ok (record { log = log_of Journal0 1 limit []; records = [] })
+found_by limit areas (Ok (Some (area, generation))) = found_in area generation limit (walk_of (bytes_of area areas))
+
+-- one sync, the survey, and then a new journal or what is read of the one that stands
+abbrev pub finding_by : Areas → Result (Option (Area × ℕ)) (Area × ℕ) → List Op
+finding_by areas standing = Does Sync ∷ (survey ++ (map Does (begin_calls standing (begun areas)) ++ area_readings areas standing))
+
+-- the opening of a journal found: its calls after those that found it
+abbrev pub with_epoch : NodeId → Log → State → List ℕ → Opening Journal
+with_epoch id log s r =
+    if nat_lt log.limit (appended log r).end then record { work = []; result = Err Full }
+    else record { work = map Does (append_calls log r); result = Ok (record { id = id; log = appended log r; state = s }) }
+
+-- an epoch more, unless it is the last one
+abbrev pub next_journal : NodeId → Found → State → Result State OpenFault → Opening Journal
+next_journal id found s (Ok next) = with_epoch id found.log next (epoch_record id found.records s)
+next_journal id found s (Err fault) = record { work = []; result = Err Full }
+
+-- records that aren't this node's are a fault of the disk too
+abbrev pub judged_journal : NodeId → Found → Result State OpenFault → Opening Journal
+judged_journal id found (Ok s) = next_journal id found s (opened_state s)
+judged_journal id found (Err fault) = record { work = []; result = Err Disk }
+
+abbrev pub opened_journal : NodeId → Result Found Cause → Opening Journal
+opened_journal id (Ok found) = judged_journal id found (state_of id found.records)
+opened_journal id (Err cause) = record { work = []; result = Err cause }
+
+-- ---- the checkpoint
+
+-- a state that is at fault, by where it begins
+abbrev pub judged_state : Area × ℕ × ℕ → Checks → Result Replica CodecFault → Result Checks (Area × ℕ)
+judged_state place checks (Ok replica) = Ok checks
+judged_state place checks (Err fault) = Err (place.0, place.2 + place_of fault)
+
+abbrev pub judged_newest : Config → PartitionTable → Checks → Option Checkpoint → Option (Area × ℕ × ℕ) → Result Checks (Area × ℕ)
+judged_newest config p checks None place = Ok checks
+judged_newest config p checks (Some newest) None = Ok checks
+judged_newest config p checks (Some newest) (Some place) =
+    if is_tuple_of (round_sizes config) p.rings newest.tuple then judged_state place checks (whole_state p newest.state) else Err (place.0, place.1)
+
+-- A replica's checkpoint is one of its partition: its tuple is a valid one there, and its bytes are a state. A node that is no
+-- replica asks neither.
+abbrev pub judged_for : Config → Option PartitionTable → Checks → Result Checks (Area × ℕ)
+judged_for config None checks = Ok checks
+judged_for config (Some p) checks = judged_newest config p checks checks.newest (place checks)
+
+abbrev pub judged_checks : Config → NodeId → Result Checks (Area × ℕ) → Result Checks (Area × ℕ)
+judged_checks config id (Err spot) = Err spot
+judged_checks config id (Ok checks) = judged_for config (partition_of config.partitions id) checks
+
+abbrev pub found_checks : Result Checks (Area × ℕ) → Result Checks Cause
+found_checks (Ok checks) = Ok checks
+found_checks (Err spot) = Err Disk
+
+-- the survey, and what is read of the area that stands
+abbrev pub opened_checks : Config → NodeId → Areas → Result (Option (Area × ℕ)) (Area × ℕ) → Opening Checks
+opened_checks config id areas standing = record {
+  work = survey ++ area_readings areas standing;
+  result = found_checks (judged_checks config id (checks_of areas standing));
+}
+
+-- ---- both
+
+-- the journal and the checkpoints of a node that has opened
+pub record Kept : Type 0 where
+  pub journal : Journal
+  pub checks : Checks
+
+abbrev pub kept_of : Journal → Result Checks Cause → Result Kept Cause
+kept_of journal (Ok checks) = Ok (record { journal = journal; checks = checks })
+kept_of journal (Err cause) = Err cause
+
+abbrev pub with_checks_of : List Op → Journal → Opening Checks → Opening Kept
+with_checks_of before journal checks = record { work = before ++ checks.work; result = kept_of journal checks.result }
+
+-- the checkpoints are looked at where the journal has opened
+abbrev pub then_checks : Config → NodeId → List Op → Areas → List Op → Result Journal Cause → Opening Kept
+then_checks config id before areas work (Ok journal) = with_checks_of (before ++ work) journal (opened_checks config id areas (stands CheckPair areas))
+then_checks config id before areas work (Err cause) = record { work = before ++ work; result = Err cause }
+
+abbrev pub then_opens : Config → NodeId → Areas → List Op → Opening Journal → Opening Kept
+then_opens config id areas before journal = then_checks config id before areas journal.work journal.result
+
+abbrev pub opening_by : Config → NodeId → Areas → Result (Option (Area × ℕ)) (Area × ℕ) → Opening Kept
+opening_by config id areas standing = then_opens config id areas (finding_by areas standing) (opened_journal id (found_by config.journal areas standing))
+
+-- The opening of a node on a disk that reads so. First the journal, with the record of its new epoch, and then the
+-- checkpoints.
+unfoldable pub opening : Config → NodeId → Areas → Opening Kept
+opening config id areas = opening_by config id areas (stands JournalPair areas)

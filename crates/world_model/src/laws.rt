@@ -1,0 +1,38 @@
+//! Why a disk may be told anew from its areas between steps.
+
+ghost use Rattle.std.specs.Prelude.{◌≡◌, ℕ, true, List, take, Ok};
+ghost use Rattle.disk_model.specs.declared.area.Area.{Area};
+ghost use Rattle.disk_model.specs.declared.area.Image.{Image};
+ghost use Rattle.disk_model.specs.declared.call.Call.{Call};
+ghost use Rattle.disk_model.specs.Calls.{Told, begun, and_then, reads, kept, IsSettled};
+ghost use Rattle.disk_model.specs.Crash.{left_by};
+ghost use Rattle.disk_model.specs.Sim.{Sim};
+ghost use Rattle.disk_model.specs.declared.areas.Areas.{Areas};
+ghost use Rattle.mrp_types.specs.declared.id.NodeId.{NodeId};
+ghost use Rattle.mrp_config.specs.Config.{Config};
+ghost use Rattle.protocol.specs.Node.{View, Work, calls_of};
+ghost use Rattle.world_model.specs.Disks.{Op, ran, changes_in};
+ghost use Rattle.world_model.specs.Opening.{Kept, opening};
+
+/// A disk on which nothing is pending and one that begins with its areas leave the same images, whatever calls follow.
+pub fn areas_tell_a_settled_disk()
+    ensures kept { (t : Told) (calls : List Call) (area : Area) → IsSettled t → kept area (and_then t calls) ≡ kept area (and_then (begun (reads t)) calls) }
+    ensures images { (t : Told) (calls : List Call) (image : Image) → IsSettled t → left_by image (and_then t calls) ≡ left_by image (and_then (begun (reads t)) calls) }
+{}
+
+/// The work of a step leaves nothing pending.
+pub fn work_is_settled()
+    ensures { (view : View) (work : Work) (t : Told) → IsSettled t → IsSettled (and_then t (calls_of view work t)) }
+{}
+
+/// Calls that all passed have changed the disk in their order; where one failed, the first of them have.
+pub fn what_passed_took_effect()
+    ensures all { (ops : List Op) (disk : Sim) → (ran ops disk).done ≡ true → (ran ops disk).disk.told ≡ and_then disk.told (changes_in ops) }
+    ensures some { (ops : List Op) (disk : Sim) → (j : ℕ) × ((ran ops disk).disk.told ≡ and_then disk.told (take j (changes_in ops))) }
+{}
+
+/// The calls of an opening that succeeds leave nothing pending, whatever the disk had told.
+pub fn openings_are_settled()
+    ensures { (config : Config) (id : NodeId) (areas : Areas) (kept : Kept) (t : Told) →
+        (opening config id areas).result ≡ Ok kept → IsSettled (and_then t (changes_in (opening config id areas).work)) }
+{}
