@@ -13,7 +13,6 @@ use Rattle.protocol.specs.Rings.{ring_of, is_member}
 use Rattle.protocol.specs.Learner.{new_part}
 use Rattle.protocol.specs.Node.{View, RingPart, Recovering, Stepped, begun_with, finished, Acting}
 use Rattle.protocol.specs.Recovery.{begins}
-use Rattle.protocol.specs.Bases.{rebases}
 
 -- the partition of which a node is a replica
 abbrev pub partition_of : List PartitionTable → NodeId → Option PartitionTable
@@ -49,4 +48,4 @@ begins_first config (Some partition) a =
 -- A node has opened. It hasn't heard of any other, no coordinator is active, and a replica begins its first attempt.
 unfoldable pub opened : Config → NodeId → Journal → Checks → Stepped
 opened config id journal checks =
-    finished (rebases (begins_first config (partition_of config.partitions id) (begun_with (view_of config id journal checks))))
+    finished (begins_first config (partition_of config.partitions id) (begun_with (view_of config id journal checks)))

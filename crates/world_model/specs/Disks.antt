@@ -1,13 +1,12 @@
 -- The disk of a node: what its calls do to it, and where they fail.
 use Rattle.std.specs.Prelude.{ℕ, Bool, true, false, if◌then◌else◌, List, [], ◌∷◌, Some, Result, Ok, Err}
-use Rattle.disk_model.specs.declared.area.Image.{Image}
 use Rattle.disk_model.specs.declared.area.Refused.{Refused}
 use Rattle.disk_model.specs.declared.area.Refused.TheVariants.{Failed}
+use Rattle.disk_model.specs.declared.areas.Areas.{Areas}
 use Rattle.disk_model.specs.declared.call.Call.{Call}
 use Rattle.disk_model.specs.declared.plan.Plan.{Plan}
-use Rattle.disk_model.specs.Calls.{Told, begun, reads}
+use Rattle.disk_model.specs.Calls.{begun, reads}
 use Rattle.disk_model.specs.Causes.{falls_on_change, falls_on_read, no_trouble}
-use Rattle.disk_model.specs.Crash.{left_by}
 use Rattle.disk_model.specs.Sim.{Sim, after_change, after_read}
 use Rattle.protocol.specs.Lines.{Cause, Crash, Disk}
 
@@ -88,6 +87,6 @@ with_plan plan disk = record disk { trouble = record disk.trouble { plan = plan 
 
 -- ---- a restart
 
--- the disk of a node that comes back on an image of what it left, with the faults that were set while it was down
-abbrev pub restarted : Image → Told → Plan → Sim
-restarted image told plan = record { told = begun (left_by image told); trouble = record no_trouble { plan = plan } }
+-- the disk of a node that comes back on these areas, with the faults that were set while it was down
+abbrev pub restarted : Areas → Plan → Sim
+restarted areas plan = record { told = begun areas; trouble = record no_trouble { plan = plan } }

@@ -3,3 +3,4 @@ pub mod Disks
 pub mod Opening
 pub mod Worlds
 pub mod Trace
+pub mod Runs

@@ -17,10 +17,11 @@ use Rattle.frames.specs.declared.body.Body.{Body}
 use Rattle.frames.specs.declared.sent.Sent.{Sent}
 use Rattle.frames.specs.Spelling.{frame_bytes}
 use Rattle.transcript.specs.declared.line.ShownFrame.{ShownFrame}
-use Rattle.disk_model.specs.declared.area.Image.{Image}
+use Rattle.disk_model.specs.declared.areas.Areas.{Areas}
 use Rattle.disk_model.specs.declared.call.Call.{Call}
 use Rattle.disk_model.specs.declared.plan.Plan.{Plan}
 use Rattle.disk_model.specs.Calls.{Told, reads}
+use Rattle.disk_model.specs.Crash.{left_by}
 use Rattle.disk_model.specs.Sim.{Sim, fresh}
 use Rattle.protocol.specs.Lines.{Line, Cause, Crash, Full}
 use Rattle.protocol.specs.Lines as line
@@ -230,10 +231,11 @@ crashes id None w = quiet w
 crashes id (Some (Down told plan)) w = quiet w
 crashes id (Some (Up view disk)) w = goes_down id disk Crash w
 
-abbrev pub restarts : Config → NodeId → Image → Option Host → World → Outcome
-restarts config id image None w = quiet w
-restarts config id image (Some (Up view disk)) w = quiet w
-restarts config id image (Some (Down told plan)) w = opens config id (restarted image told plan) w
+-- a node that is down opens on an image that its disk left
+abbrev pub comes_back : Config → NodeId → (Told → Areas) → Option Host → World → Outcome
+comes_back config id image None w = quiet w
+comes_back config id image (Some (Up view disk)) w = quiet w
+comes_back config id image (Some (Down told plan)) w = opens config id (restarted (image told) plan) w
 
 -- faults of a disk that is down are for the restart
 abbrev pub with_faults : (Plan → Plan) → Host → Host
@@ -265,7 +267,7 @@ happens config (event.TickNode node) w = steps config Ticks node w
 happens config (event.TickClient client) w = ticks_client config client w
 happens config (event.Lead node ring) w = steps config (Leads ring) node w
 happens config (event.Crash node) w = crashes node (node_at w node) w
-happens config (event.Restart node image) w = restarts config node image (node_at w node) w
+happens config (event.Restart node image) w = comes_back config node (left_by image) (node_at w node) w
 happens config (event.Fuse node calls) w = quiet (faults (with_fuse calls) node w)
 happens config (event.Fail node calls) w = quiet (faults (with_fail calls) node w)
 happens config (event.FailRead node calls) w = quiet (faults (with_fail_read calls) node w)

@@ -1,10 +1,11 @@
 //! Why a disk may be told anew from its areas between steps.
 
-ghost use Rattle.std.specs.Prelude.{◌≡◌, ℕ, true, List, take, Ok};
+ghost use Rattle.std.specs.Prelude.{◌≡◌, ℕ, true, List, [], ◌∷◌, ◌++◌, length, map, take, Ok, Some};
 ghost use Rattle.disk_model.specs.declared.area.Area.{Area};
 ghost use Rattle.disk_model.specs.declared.area.Image.{Image};
 ghost use Rattle.disk_model.specs.declared.call.Call.{Call};
-ghost use Rattle.disk_model.specs.Calls.{Told, begun, and_then, reads, kept, IsSettled};
+ghost use Rattle.disk_model.specs.declared.plan.Plan.{Plan};
+ghost use Rattle.disk_model.specs.Calls.{Told, begun, and_then, reads, kept, IsSettled, IsImage};
 ghost use Rattle.disk_model.specs.Crash.{left_by};
 ghost use Rattle.disk_model.specs.Sim.{Sim};
 ghost use Rattle.disk_model.specs.declared.areas.Areas.{Areas};
@@ -13,6 +14,11 @@ ghost use Rattle.mrp_config.specs.Config.{Config};
 ghost use Rattle.protocol.specs.Node.{View, Work, calls_of};
 ghost use Rattle.world_model.specs.Disks.{Op, ran, changes_in};
 ghost use Rattle.world_model.specs.Opening.{Kept, opening};
+ghost use Rattle.world_model.specs.Events.{ScheduleEvent};
+ghost use Rattle.world_model.specs.Worlds.{World, Down, comes_back};
+ghost use Rattle.world_model.specs.Runs.{Scheduled, run_of};
+ghost use Rattle.world_model.specs.Trace.{trace};
+ghost use Rattle.protocol.specs.Lines.{End};
 
 /// A disk on which nothing is pending and one that begins with its areas leave the same images, whatever calls follow.
 pub fn areas_tell_a_settled_disk()
@@ -35,4 +41,16 @@ pub fn what_passed_took_effect()
 pub fn openings_are_settled()
     ensures { (config : Config) (id : NodeId) (areas : Areas) (kept : Kept) (t : Told) →
         (opening config id areas).result ≡ Ok kept → IsSettled (and_then t (changes_in (opening config id areas).work)) }
+{}
+
+/// The restarts of a schedule are restarts on images that a crash may leave.
+pub fn scheduled_images_may_be_left()
+    ensures may { (image : Image) (t : Told) → IsImage t (left_by image t) }
+    ensures same { (config : Config) (id : NodeId) (image : Image) (t : Told) (plan : Plan) (w : World) →
+        comes_back config id (left_by image) (Some (Down t plan)) w ≡ comes_back config id (λ told. left_by image t) (Some (Down t plan)) w }
+{}
+
+/// What a schedule prints is what its run prints, and then its end.
+pub fn a_trace_is_a_run()
+    ensures { (config : Config) (events : List ScheduleEvent) → trace config events ≡ (run_of config (map Scheduled events)).lines ++ End (length events) ∷ [] }
 {}
