@@ -64,11 +64,6 @@ batch_is_no_skip (zero ∷ []) h = absurd cc
 batch_is_no_skip (suc n ∷ []) h = not_none (suc n) (omega arith)
 batch_is_no_skip (b ∷ c ∷ rest) h = refl
 
-batch_has_bytes : (bytes : List ℕ) → spells_batch bytes ≡ true → 1 ≤ length bytes
-unfolding batch_at
-batch_has_bytes [] h = absurd cc
-batch_has_bytes (b ∷ rest) h = omega arith
-
 -- a value that may stand there: Skip where it may, a batch where the range has one instance
 pub record MayStand (skips alone : Bool) (value : Value) : Type 0 where
   pub skip : is_skip value ≡ true → skips ≡ true
@@ -77,7 +72,7 @@ pub record MayStand (skips alone : Bool) (value : Value) : Type 0 where
 
 -- what is read as a value
 abbrev pub IsText : Bool → Bool → List ℕ → Type 0
-IsText skips alone bytes = HasLength 1 8192 bytes × IsTrue (may_stand skips alone bytes)
+IsText skips alone bytes = HasLength 0 8192 bytes × IsTrue (may_stand skips alone bytes)
 
 abbrev pub value_text : Value → List ℕ
 value_text value = string16 (value_bytes value)
@@ -101,7 +96,7 @@ text_stands skips alone Skip is = ((omega arith, omega arith), is.skip refl)
 text_stands skips alone (Batch batch) is =
     let one : alone ≡ true = is.batch refl in
     let spelled : spells_batch batch ≡ true = is.spelled.1 in
-    ((batch_has_bytes batch spelled, is.spelled.0), rw (batch_is_no_skip batch spelled, one, spelled) refl)
+    ((omega arith, is.spelled.0), rw (batch_is_no_skip batch spelled, one, spelled) refl)
 
 value_again : (skips alone : Bool) (value : Value) → MayStand skips alone value → value_of (value_bytes value) ≡ value
 value_again skips alone Skip is = refl
@@ -111,12 +106,12 @@ pub value_law : (skips alone : Bool) → Field Value (value_at skips alone) valu
 unfolding value_at
 value_law skips alone = record {
   was = λ spot x are h.
-      let p = shown_was (List ℕ) Value value_of (string_that 1 8192 (may_stand skips alone)) spot x h in
-      let t = (string_that_law 1 8192 (may_stand skips alone) (lit< tt)).was spot p.0 are p.1 in
+      let p = shown_was (List ℕ) Value value_of (string_that 0 8192 (may_stand skips alone)) spot x h in
+      let t = (string_that_law 0 8192 (may_stand skips alone) (lit< tt)).was spot p.0 are p.1 in
       subst (λ (y : Value × Spot). Took spot (value_text y.0) y.1 × MayStand skips alone y.0) p.2
       (subst (λ (s : List ℕ). Took spot (string16 s) p.0.1) (sym (text_of p.0.0)) t.0, value_stands skips alone p.0.0 t.1);
   again = λ value at tail is.
-      let r = (string_that_law 1 8192 (may_stand skips alone) (lit< tt)).again (value_bytes value) at tail (text_stands skips alone value is) in
+      let r = (string_that_law 0 8192 (may_stand skips alone) (lit< tt)).again (value_bytes value) at tail (text_stands skips alone value is) in
       (r.0, rw (r.1, value_again skips alone value is) refl);
 }
 

@@ -38,7 +38,7 @@ abbrev pub value_of : List ℕ → Value
 value_of bytes = if spells_skip bytes then Skip else Batch bytes
 
 unfoldable pub value_at : Bool → Bool → Reader Value
-value_at skips alone = shown value_of (string_that 1 8192 (may_stand skips alone))
+value_at skips alone = shown value_of (string_that 0 8192 (may_stand skips alone))
 
 -- ---- numbers
 

@@ -61,7 +61,7 @@ pub fn read_value(
 ) -> Result<Value, CodecFault>
     ensures { Reads (λ v. v) (value_at skips alone fields.old) result fields.new }
 {
-    let length = fields.length(1, VALUE)?;
+    let length = fields.length(0, VALUE)?;
     let at = fields.at();
     let bytes = fields.bytes(length)?;
     if is_skip(bytes) {

@@ -322,7 +322,7 @@ fn values_where_they_may_stand(rt: HostRuntime) -> Result<(), Fail> {
         (&ONE, false, true, None),
         (&ONE, true, false, Some(CodecFault::BadField(2))),
         (&[0, 1, 1], true, true, Some(CodecFault::BadField(2))),
-        (&[0, 0], true, true, Some(CodecFault::BadField(0))),
+        (&[0, 0], true, true, Some(CodecFault::BadField(2))),
         (&[32, 1], true, true, Some(CodecFault::TooLong(0))),
         (&ONE[..16], true, true, Some(CodecFault::Short(2))),
     ];

@@ -370,7 +370,7 @@ fn changes_of_the_worked_frame(rt: HostRuntime) -> Result<(), Fail> {
         (22, 0, FrameFault::BadField(15)),
         (22, 2, FrameFault::BadField(26)),
         // No length, one past a value's, and one past the end.
-        (25, 0, FrameFault::BadField(24)),
+        (25, 0, FrameFault::BadField(26)),
         (24, 33, FrameFault::BadField(24)),
         (25, 21, FrameFault::Short(26)),
         // The value is no batch.
