@@ -7,7 +7,7 @@ use Rattle.mrp_config.specs.declared.fault.ConfigFault.TheVariants.{Missing}
 use Rattle.mrp_config.specs.declared.tables.NodeTable.{NodeTable}
 use Rattle.mrp_config.specs.declared.tables.ClientTable.{ClientTable}
 use Rattle.mrp_config.specs.declared.tables.RingTable.{RingTable}
-use Rattle.mrp_config.specs.Address.{is_address}
+use Rattle.mrp_config.specs.Address.{IsAddress}
 use Rattle.mrp_config.specs.Walk.{unless, address_of, id_of, all_known, tables_in, some_tables, tables_of, entries_in, node_of, client_of, ring_of, acceptors_of, nodes_of, clients_of, rings_of, top_nodes, top_clients, top_rings, numbers_of_nodes, node_ids, ring_ids}
 use Rattle.mrp_config.specs.Valid.{IncreasesFrom, AreAtMost, IsBetween, AreSeats, AreNodes, AreClients, AreRings, client_ids}
 use Rattle.mrp_config.proofs.Seen.{bound, ok_is, tested, then_was, Chained, chain_saw, as_many, id_saw, address_saw, seats_saw}
@@ -36,7 +36,7 @@ tables_saw name fewest most (Some value) ts h =
 abbrev pub IsId : ℕ → ℕ → ℕ → Type 0
 IsId least most id = (least ≤ id) × (id ≤ most)
 
-node_saw : (least : ℕ) (t : Members) (node : NodeTable) → node_of least t ≡ Ok node → IsId least 31 node.id.0 × (is_address node.address ≡ true)
+node_saw : (least : ℕ) (t : Members) (node : NodeTable) → node_of least t ≡ Ok node → IsId least 31 node.id.0 × IsAddress node.address
 unfolding node_of
 node_saw least t node h =
     let a = bound (id_of (codes "node.id") 31 least (get_member (codes "id") t)) _ node h in
@@ -44,12 +44,12 @@ node_saw least t node h =
     let c = bound (all_known (codes "node.") (codes "id" ∷ codes "address" ∷ []) t) _ node b.2 in
     let id = id_saw (codes "node.id") 31 least (get_member (codes "id") t) a.0 a.1 in
     let address = address_saw (codes "node.address") (get_member (codes "address") t) b.0 b.1 in
-    subst (λ (n : NodeTable). IsId least 31 n.id.0 × (is_address n.address ≡ true)) (ok_is (record { id = record { 0 = a.0 }; address = b.0 }) node c.2) (id, address)
+    subst (λ (n : NodeTable). IsId least 31 n.id.0 × IsAddress n.address) (ok_is (record { id = record { 0 = a.0 }; address = b.0 }) node c.2) (id, address)
 
 record AreNodesFrom (start : ℕ) (nodes : List NodeTable) : Type 0 where
   ids : IncreasesFrom start (node_ids nodes)
   numbers : AreAtMost 31 (node_ids nodes)
-  addresses : AllByRecursion (λ (n : NodeTable). is_address n.address ≡ true) nodes
+  addresses : AllByRecursion (λ (n : NodeTable). IsAddress n.address) nodes
 
 nodes_saw : (start : ℕ) (ts : List Members) (nodes : List NodeTable) → Chained node_of (λ (least : ℕ) (node : NodeTable). node.id.0 + 1) start ts nodes → AreNodesFrom start nodes
 nodes_saw start [] [] h = record { ids = tt; numbers = tt; addresses = tt }
@@ -71,7 +71,7 @@ top_nodes_saw t nodes h =
 
 -- ---- clients
 
-client_saw : (least : ℕ) (t : Members) (client : ClientTable) → client_of least t ≡ Ok client → IsId least 255 client.id.0 × (is_address client.address ≡ true)
+client_saw : (least : ℕ) (t : Members) (client : ClientTable) → client_of least t ≡ Ok client → IsId least 255 client.id.0 × IsAddress client.address
 unfolding client_of
 client_saw least t client h =
     let a = bound (id_of (codes "client.id") 255 least (get_member (codes "id") t)) _ client h in
@@ -79,12 +79,12 @@ client_saw least t client h =
     let c = bound (all_known (codes "client.") (codes "id" ∷ codes "address" ∷ []) t) _ client b.2 in
     let id = id_saw (codes "client.id") 255 least (get_member (codes "id") t) a.0 a.1 in
     let address = address_saw (codes "client.address") (get_member (codes "address") t) b.0 b.1 in
-    subst (λ (n : ClientTable). IsId least 255 n.id.0 × (is_address n.address ≡ true)) (ok_is (record { id = record { 0 = a.0 }; address = b.0 }) client c.2) (id, address)
+    subst (λ (n : ClientTable). IsId least 255 n.id.0 × IsAddress n.address) (ok_is (record { id = record { 0 = a.0 }; address = b.0 }) client c.2) (id, address)
 
 record AreClientsFrom (start : ℕ) (clients : List ClientTable) : Type 0 where
   ids : IncreasesFrom start (client_ids clients)
   numbers : AreAtMost 255 (client_ids clients)
-  addresses : AllByRecursion (λ (n : ClientTable). is_address n.address ≡ true) clients
+  addresses : AllByRecursion (λ (n : ClientTable). IsAddress n.address) clients
 
 clients_saw : (start : ℕ) (ts : List Members) (clients : List ClientTable) → Chained client_of (λ (least : ℕ) (client : ClientTable). client.id.0 + 1) start ts clients → AreClientsFrom start clients
 clients_saw start [] [] h = record { ids = tt; numbers = tt; addresses = tt }

@@ -1,11 +1,11 @@
 -- The tables of valid nodes, clients, rings and partitions are accepted.
-use Rattle.std.proofs.Common.{◌≡◌, ℕ, ◌+◌, ◌≤◌, true, List, [], ◌∷◌, map, refl, Some, Ok, codes}
+use Rattle.std.proofs.Common.{◌≡◌, ℕ, ◌+◌, ◌≤◌, List, [], ◌∷◌, map, refl, Some, Ok, codes}
 use Rattle.std.specs.List.{AllByRecursion}
 use Rattle.toml.specs.Data.{string}
 use Rattle.mrp_config.specs.declared.tables.NodeTable.{NodeTable}
 use Rattle.mrp_config.specs.declared.tables.ClientTable.{ClientTable}
 use Rattle.mrp_config.specs.declared.tables.RingTable.{RingTable}
-use Rattle.mrp_config.specs.Address.{is_address}
+use Rattle.mrp_config.specs.Address.{IsAddress}
 use Rattle.mrp_config.specs.Walk.{address_of, id_of, seats_of, numbers_of_nodes, node_of, nodes_of, client_of, clients_of, ring_of, acceptors_of, rings_of, node_ids, ring_ids}
 use Rattle.mrp_config.specs.Tables.{number, numbers, node_table, client_table, ring_table}
 use Rattle.mrp_config.specs.Valid.{IncreasesFrom, AreAtMost, AreSeats, client_ids}
@@ -13,25 +13,25 @@ use Rattle.mrp_config.proofs.Spelled.{step, apart_from_none, id_back, address_ba
 
 -- ---- nodes and clients
 
-node_back : (start : ℕ) (n : NodeTable) → start ≤ n.id.0 → n.id.0 ≤ 31 → is_address n.address ≡ true → node_of start (node_table n) ≡ Ok n
+node_back : (start : ℕ) (n : NodeTable) → start ≤ n.id.0 → n.id.0 ≤ 31 → IsAddress n.address → node_of start (node_table n) ≡ Ok n
 unfolding node_of node_table
 node_back start n low high good =
     step (id_of (codes "node.id") 31 start (Some (number n.id.0))) _ n.id.0 _ (id_back (codes "node.id") 31 start n.id.0 low high)
     (step (address_of (codes "node.address") (Some (string n.address))) _ n.address _ (address_back (codes "node.address") n.address good) refl)
 
-pub nodes_back : (start : ℕ) (ns : List NodeTable) → IncreasesFrom start (node_ids ns) → AreAtMost 31 (node_ids ns) → AllByRecursion (λ (n : NodeTable). is_address n.address ≡ true) ns → nodes_of start (map node_table ns) ≡ Ok ns
+pub nodes_back : (start : ℕ) (ns : List NodeTable) → IncreasesFrom start (node_ids ns) → AreAtMost 31 (node_ids ns) → AllByRecursion (λ (n : NodeTable). IsAddress n.address) ns → nodes_of start (map node_table ns) ≡ Ok ns
 nodes_back start [] low high good = refl
 nodes_back start (n ∷ ns) low high good =
     step (node_of start (node_table n)) _ n _ (node_back start n low.0 high.0 good.0)
     (step (nodes_of (n.id.0 + 1) (map node_table ns)) _ ns _ (nodes_back (n.id.0 + 1) ns low.1 high.1 good.1) refl)
 
-client_back : (start : ℕ) (n : ClientTable) → start ≤ n.id.0 → n.id.0 ≤ 255 → is_address n.address ≡ true → client_of start (client_table n) ≡ Ok n
+client_back : (start : ℕ) (n : ClientTable) → start ≤ n.id.0 → n.id.0 ≤ 255 → IsAddress n.address → client_of start (client_table n) ≡ Ok n
 unfolding client_of client_table
 client_back start n low high good =
     step (id_of (codes "client.id") 255 start (Some (number n.id.0))) _ n.id.0 _ (id_back (codes "client.id") 255 start n.id.0 low high)
     (step (address_of (codes "client.address") (Some (string n.address))) _ n.address _ (address_back (codes "client.address") n.address good) refl)
 
-pub clients_back : (start : ℕ) (ns : List ClientTable) → IncreasesFrom start (client_ids ns) → AreAtMost 255 (client_ids ns) → AllByRecursion (λ (n : ClientTable). is_address n.address ≡ true) ns → clients_of start (map client_table ns) ≡ Ok ns
+pub clients_back : (start : ℕ) (ns : List ClientTable) → IncreasesFrom start (client_ids ns) → AreAtMost 255 (client_ids ns) → AllByRecursion (λ (n : ClientTable). IsAddress n.address) ns → clients_of start (map client_table ns) ≡ Ok ns
 clients_back start [] low high good = refl
 clients_back start (n ∷ ns) low high good =
     step (client_of start (client_table n)) _ n _ (client_back start n low.0 high.0 good.0)

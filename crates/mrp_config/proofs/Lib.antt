@@ -17,3 +17,4 @@ pub mod Names
 pub mod Among
 pub mod Rising
 pub mod Documents
+pub mod Addresses

@@ -9,7 +9,8 @@ use Rattle.hex.proofs.HexLemmas.{decode_of-ok}
 use Rattle.mrp_types.proofs.TestLemmas.{both, at_most}
 use Rattle.mrp_types.specs.declared.id.NodeId.{NodeId}
 use Rattle.mrp_config.specs.declared.fault.ConfigFault.{ConfigFault}
-use Rattle.mrp_config.specs.Address.{is_address}
+use Rattle.mrp_config.proofs.Addresses.{address_is}
+use Rattle.mrp_config.specs.Address.{is_address, IsAddress}
 use Rattle.mrp_config.specs.Walk.{◌>>=◌, chain, unless, integer_of, in_range, number_of, text_of, address_of, decoded, hex_of, integers_of, each_in, numbers_of, is_among, each_once, each_rises, each_known, id_of, as_nodes, seats_of, numbers_of_nodes}
 use Rattle.mrp_config.specs.Valid.{IncreasesFrom, AreAtMost, AreAmong, AreDifferent, AreApart, IsBetween, AreSeats, IsKey}
 use Rattle.mrp_config.proofs.Among.{in_neither, none_of, turned}
@@ -85,12 +86,12 @@ id_saw name most least found n h =
     let high = number_saw name 0 most found a.0 a.1 in
     subst (λ k. (least ≤ k) × (k ≤ most)) same (leb-true least a.0 (tested _ _ b.0 b.1), high.1)
 
-pub address_saw : (name : List ℕ) (found : Option Data) (text : List ℕ) → address_of name found ≡ Ok text → is_address text ≡ true
+pub address_saw : (name : List ℕ) (found : Option Data) (text : List ℕ) → address_of name found ≡ Ok text → IsAddress text
 address_saw name found text h =
     let a = bound (text_of name found) _ text h in
     let b = bound (unless (is_address a.0) _) _ text a.2 in
     let same : a.0 ≡ text = ok_is a.0 text b.2 in
-    subst (λ k. is_address k ≡ true) same (tested _ _ b.0 b.1)
+    subst IsAddress same (address_is a.0 (tested _ _ b.0 b.1))
 
 decoded_saw : (name text : List ℕ) (r : Result (List ℕ) FromHexError) (bytes : List ℕ) → decode_of text ≡ r → decoded name text r ≡ Ok bytes → IsKey bytes
 decoded_saw name text (Err e) bytes is h = absurd cc

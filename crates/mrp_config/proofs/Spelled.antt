@@ -11,7 +11,8 @@ use Rattle.mrp_types.proofs.TestLemmas.{not_above}
 use Rattle.mrp_types.specs.declared.id.NodeId.{NodeId}
 use Rattle.mrp_config.specs.declared.fault.ConfigFault.{ConfigFault}
 use Rattle.mrp_config.specs.declared.fault.ConfigFault.TheVariants.{OutOfRange, Repeated}
-use Rattle.mrp_config.specs.Address.{is_address}
+use Rattle.mrp_config.proofs.Addresses.{is_an_address}
+use Rattle.mrp_config.specs.Address.{is_address, IsAddress}
 use Rattle.mrp_config.specs.Walk.{◌>>=◌, chain, unless, integer_in, in_range, number_of, address_of, decoded, hex_of, integers_of, each_in, numbers_of, is_among, each_once, each_rises, each_known, id_of, as_nodes, seats_of, numbers_of_nodes, tables_in, tables_of, some_tables}
 use Rattle.mrp_config.specs.Tables.{number, numbers, tables_with}
 use Rattle.mrp_config.specs.Valid.{IncreasesFrom, AreAtMost, AreAmong, AreDifferent, AreApart, IsBetween, AreSeats, IsKey}
@@ -39,8 +40,8 @@ id_back name most least n low high =
     step (number_of name 0 most (Some (number n))) _ n _ (number_back name 0 most n (omega arith, high))
     (step (unless (nat_le least n) (Repeated name n)) _ tt _ (passes (nat_le least n) (Repeated name n) (le-leb least n low)) refl)
 
-pub address_back : (name text : List ℕ) → is_address text ≡ true → address_of name (Some (string text)) ≡ Ok text
-address_back name text h = step (unless (is_address text) (OutOfRange name)) _ tt _ (passes (is_address text) (OutOfRange name) h) refl
+pub address_back : (name text : List ℕ) → IsAddress text → address_of name (Some (string text)) ≡ Ok text
+address_back name text h = step (unless (is_address text) (OutOfRange name)) _ tt _ (passes (is_address text) (OutOfRange name) (is_an_address text h)) refl
 
 decoded_back : (name bytes : List ℕ) → IsKey bytes → decoded name (encode_lower bytes) (Ok bytes) ≡ Ok bytes
 decoded_back name bytes h = rw ((bytes_eq-Decides (encode_lower bytes) (encode_lower bytes)).1 refl, le-leb (length bytes) 256 h.few) refl

@@ -1,5 +1,5 @@
 -- Texts of addresses: a dotted IPv4 address, a colon and a port.
-use Rattle.std.specs.Prelude.{ℕ, ◌==◌, nat_lt, ◌&&◌, ◌||◌, Bool, false, if◌then◌else◌, List, [], ◌∷◌, length, drop, slice_index, Option, Some, None}
+use Rattle.std.specs.Prelude.{ℕ, ◌≡◌, ◌<◌, ◌^◌, ◌==◌, nat_lt, ◌&&◌, ◌||◌, Bool, false, if◌then◌else◌, List, [], ◌∷◌, ◌++◌, length, drop, decimal, slice_index, Option, Some, None}
 use Rattle.std.specs.Net.Reader.{read_number}
 
 -- the second step, where the first gave something
@@ -41,3 +41,15 @@ past_ip text = do
 -- and then a port of 1 to 65,535
 abbrev pub is_address : List ℕ → Bool
 is_address text = is_end (past_ip text >>= past_number 1 65535)
+
+-- The text a.b.c.d:port of four bytes and a port above 0, each in decimal without leading zeros.
+pub record IsAddress (text : List ℕ) : Type 0 where
+  pub a : ℕ
+  pub b : ℕ
+  pub c : ℕ
+  pub d : ℕ
+  pub port : ℕ
+  pub bytes : (a < 256) × (b < 256) × (c < 256) × (d < 256)
+  pub above : 0 < port
+  pub short : port < 2 ^ 16
+  pub spelled : text ≡ decimal a ++ 46 ∷ (decimal b ++ 46 ∷ (decimal c ++ 46 ∷ (decimal d ++ 58 ∷ decimal port)))

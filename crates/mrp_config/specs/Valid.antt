@@ -8,7 +8,7 @@ use Rattle.mrp_config.specs.declared.tables.NodeTable.{NodeTable}
 use Rattle.mrp_config.specs.declared.tables.ClientTable.{ClientTable}
 use Rattle.mrp_config.specs.declared.tables.RingTable.{RingTable}
 use Rattle.mrp_config.specs.declared.tables.PartitionTable.{PartitionTable}
-use Rattle.mrp_config.specs.Address.{is_address}
+use Rattle.mrp_config.specs.Address.{IsAddress}
 use Rattle.mrp_config.specs.Config.{Config, has_ring}
 use Rattle.mrp_config.specs.Routing.{is_before, is_within, is_concerned, all_have, no_group}
 use Rattle.mrp_config.specs.declared.routing.NoGroup.{NoGroup}
@@ -61,7 +61,7 @@ pub record AreNodes (nodes : List NodeTable) : Type 0 where
   pub few : IsBetween 1 32 (length nodes)
   pub ids : IncreasesFrom 0 (node_ids nodes)
   pub numbers : AreAtMost 31 (node_ids nodes)
-  pub addresses : AllByRecursion (λ (n : NodeTable). is_address n.address ≡ true) nodes
+  pub addresses : AllByRecursion (λ (n : NodeTable). IsAddress n.address) nodes
 
 abbrev pub client_ids : List ClientTable → List ℕ
 client_ids clients = map (λ (c : ClientTable). c.id.0) clients
@@ -70,7 +70,7 @@ pub record AreClients (clients : List ClientTable) : Type 0 where
   pub few : length clients ≤ 256
   pub ids : IncreasesFrom 0 (client_ids clients)
   pub numbers : AreAtMost 255 (client_ids clients)
-  pub addresses : AllByRecursion (λ (c : ClientTable). is_address c.address ≡ true) clients
+  pub addresses : AllByRecursion (λ (c : ClientTable). IsAddress c.address) clients
 
 pub record AreRings (nodes : List ℕ) (rings : List RingTable) : Type 0 where
   pub few : IsBetween 1 16 (length rings)
