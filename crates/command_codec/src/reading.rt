@@ -9,7 +9,8 @@ use mrp_types::Octets;
 use std::alloc::Global;
 use std::marker::Model;
 
-/// What is left of bytes, and the position where it begins; contracts see these two.
+/// What is left of bytes, and the position where it begins; contracts see these two. A reader ends with its first
+/// fault: after one nothing is said of what is left.
 #[derive(Drop)]
 pub struct Cursor<'a> {
     at: usize,

@@ -1,4 +1,5 @@
-//! Numbers and strings of bytes at the end of what was written: numbers are big-endian.
+//! Numbers and strings of bytes at the end of what was written: numbers are big-endian. Where memory runs out nothing
+//! is said of what was written: a writer ends there, and what it wrote is dropped.
 
 ghost use Rattle.std.specs.Prelude.{◌≡◌, ◌<◌, ◌^◌, ◌++◌, [], ◌∷◌, length, OnOk};
 ghost use Rattle.command_codec.specs.Fields.{u16_bytes, u32_bytes, u64_bytes, string16};
