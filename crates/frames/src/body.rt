@@ -1,6 +1,7 @@
 //! What frames say.
 
-use mrp_types::{Ballot, ClientId, Inst, Octets, PartitionId, Ranges, RingId, Tuple, Value, Votes};
+use crate::BoxedTuple;
+use mrp_types::{Ballot, ClientId, Inst, Octets, PartitionId, Ranges, RingId, Value, Votes};
 
 /// The 19 kinds of frames. Ballots are below 2^48, instances and trims below the end of all instances; a range ends
 /// there at the latest and isn't empty.
@@ -97,13 +98,13 @@ pub enum Body {
     HaveCheckpoint {
         epoch: u32,
         attempt: u32,
-        tuple: Tuple,
+        tuple: BoxedTuple,
     },
     /// Asks for a part of the checkpoint of a tuple.
     AskPart {
         epoch: u32,
         attempt: u32,
-        tuple: Tuple,
+        tuple: BoxedTuple,
         /// In bytes.
         offset: u64,
     },
@@ -111,7 +112,7 @@ pub enum Body {
     Part {
         epoch: u32,
         attempt: u32,
-        tuple: Tuple,
+        tuple: BoxedTuple,
         offset: u64,
         /// How many bytes the checkpoint has.
         total: u64,
@@ -121,8 +122,8 @@ pub enum Body {
     Gone {
         epoch: u32,
         attempt: u32,
-        asked: Tuple,
-        newer: Tuple,
+        asked: BoxedTuple,
+        newer: BoxedTuple,
     },
     /// A partition's reply to a client's command.
     Reply {

@@ -3,6 +3,7 @@
 
 mod bodies;
 mod body;
+mod boxed;
 mod fault;
 mod frame;
 mod lists;
@@ -13,6 +14,7 @@ mod valid;
 mod writing;
 
 pub use body::Body;
+pub use boxed::BoxedTuple;
 pub use fault::FrameFault;
 pub use frame::Frame;
 pub use reading::{kind_of, read};

@@ -7,6 +7,7 @@ ghost use Rattle.mrp_types.specs.Values.{is_skip as is_skip_lem};
 ghost use Rattle.frames.specs.Ranges.{nothing_before, after_vote, after_decided, may_skip};
 ghost use Rattle.frames.specs.Grammar.{vote_at, votes_at, decided_at, ranges_at, next_at, after_ring, tuple_at};
 
+use crate::BoxedTuple;
 use command_codec::CodecFault;
 use command_codec::parts::{read_ballot, read_range, read_value};
 use command_codec::reading::Cursor;
@@ -148,12 +149,12 @@ fn read_decided(
 
 /// 1 to 16 rings that increase, each with its next instance.
 #[tactic(auto, unfolding(crate::specs::Grammar::tuple_at))]
-pub fn read_tuple(alloc: Global, fields: &mut Cursor<'_>) -> Result<Tuple, CodecFault>
+pub fn read_tuple(alloc: Global, fields: &mut Cursor<'_>) -> Result<BoxedTuple, CodecFault>
     ensures { Reads (λ t. t) (tuple_at fields.old) result fields.new }
 {
     let count = fields.byte_within(1, RINGS)?;
     let pairs = read_nexts(alloc, fields, count)?;
-    Ok(Tuple::from_pairs(&pairs))
+    Ok(BoxedTuple::new(alloc, Tuple::from_pairs(&pairs))?)
 }
 
 fn read_nexts(

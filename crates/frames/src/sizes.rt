@@ -40,10 +40,12 @@ fn body_size(body: &Body) -> usize
         Body::Safe { .. } => 17,
         Body::TrimTo { .. } => 9,
         Body::AskCheckpoint { .. } => 8,
-        Body::HaveCheckpoint { tuple, .. } => 8 + tuple_size(tuple),
-        Body::AskPart { tuple, .. } => 16 + tuple_size(tuple),
-        Body::Part { tuple, bytes, .. } => 26 + tuple_size(tuple) + bytes.len(),
-        Body::Gone { asked, newer, .. } => 8 + tuple_size(asked) + tuple_size(newer),
+        Body::HaveCheckpoint { tuple, .. } => 8 + tuple_size(tuple.tuple()),
+        Body::AskPart { tuple, .. } => 16 + tuple_size(tuple.tuple()),
+        Body::Part { tuple, bytes, .. } => 26 + tuple_size(tuple.tuple()) + bytes.len(),
+        Body::Gone { asked, newer, .. } => 8
+            + tuple_size(asked.tuple())
+            + tuple_size(newer.tuple()),
         Body::Reply { reply, .. } => 12 + reply.len(),
         Body::Hello => 0,
     }

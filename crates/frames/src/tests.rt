@@ -631,3 +631,11 @@ fn sizes_of_votes_and_ranges(rt: HostRuntime) {
     };
     assert_eq!(rt; decided_size(&decided), 19);
 }
+
+#[test]
+fn tuples_on_the_heap(rt: HostRuntime) -> Result<(), Fail> {
+    let pairs = [(RingId(0), 7), (RingId(15), END)];
+    let boxed = BoxedTuple::new(rt.alloc(), Tuple::from_pairs(&pairs))?;
+    assert_eq!(rt; boxed.tuple().pairs(), pairs.as_slice());
+    Ok(())
+}

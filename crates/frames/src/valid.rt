@@ -129,16 +129,16 @@ fn is_ringless_body(body: &Body) -> bool
     ensures { IsTrue result ↔ IsBody body.now }
 {
     match body {
-        Body::HaveCheckpoint { tuple, .. } => is_tuple(tuple),
-        Body::AskPart { tuple, .. } => is_tuple(tuple),
+        Body::HaveCheckpoint { tuple, .. } => is_tuple(tuple.tuple()),
+        Body::AskPart { tuple, .. } => is_tuple(tuple.tuple()),
         Body::Part {
             tuple,
             offset,
             total,
             bytes,
             ..
-        } => is_tuple(tuple) && is_part(*offset, *total, bytes),
-        Body::Gone { asked, newer, .. } => is_tuple(asked) && is_tuple(newer),
+        } => is_tuple(tuple.tuple()) && is_part(*offset, *total, bytes),
+        Body::Gone { asked, newer, .. } => is_tuple(asked.tuple()) && is_tuple(newer.tuple()),
         Body::Reply { reply, .. } => reply.len() <= REPLY,
         _ => true,
     }

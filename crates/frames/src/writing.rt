@@ -171,14 +171,14 @@ fn put_ringless(out: &mut Octets, body: &Body) -> Result<(), Memory>
             epoch,
             attempt,
             tuple,
-        } => put_checkpoint(out, *epoch, *attempt, tuple),
+        } => put_checkpoint(out, *epoch, *attempt, tuple.tuple()),
         Body::AskPart {
             epoch,
             attempt,
             tuple,
             offset,
         } => {
-            put_checkpoint(out, *epoch, *attempt, tuple)?;
+            put_checkpoint(out, *epoch, *attempt, tuple.tuple())?;
             put_u64(out, *offset)
         }
         _ => put_last(out, body),
@@ -200,7 +200,7 @@ fn put_last(out: &mut Octets, body: &Body) -> Result<(), Memory>
             total,
             bytes,
         } => {
-            put_checkpoint(out, *epoch, *attempt, tuple)?;
+            put_checkpoint(out, *epoch, *attempt, tuple.tuple())?;
             put_u64(out, *offset)?;
             put_u64(out, *total)?;
             put_string16(out, bytes.bytes())
@@ -211,8 +211,8 @@ fn put_last(out: &mut Octets, body: &Body) -> Result<(), Memory>
             asked,
             newer,
         } => {
-            put_checkpoint(out, *epoch, *attempt, asked)?;
-            put_tuple(out, newer.pairs())
+            put_checkpoint(out, *epoch, *attempt, asked.tuple())?;
+            put_tuple(out, newer.tuple().pairs())
         }
         Body::Reply {
             client,

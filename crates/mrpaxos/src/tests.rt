@@ -10,9 +10,9 @@ use std::test::*;
 // The batch of `hi`, asked by client 0 as its number 1, and those of `a` and `b`.
 const V: &str = "0100010000000000000000010006010000026869";
 
-const R1A: &str = "01000100000000000000000100050100000161";
+const BATCH_A: &str = "01000100000000000000000100050100000161";
 
-const R1B: &str = "01000101000000000000000100050100000162";
+const BATCH_B: &str = "01000101000000000000000100050100000162";
 
 // Three nodes, each an acceptor of the one ring and a replica of the one partition.
 const CONFIG: &str =
@@ -24,6 +24,23 @@ const CONFIG: &str =
     ring = [{ id = 0, acceptors = [0, 1, 2] }]\n\
     partition = [{ id = 0, replicas = [0, 1, 2], rings = [0], home = 0, from = \"\", to = \"\",\
     logs = [0], trim_quorum = 2, recovery_quorum = 2 }]\n";
+
+// Nine nodes: three rings over three acceptors, and two partitions of three replicas each that share ring 2.
+const NINE: &str =
+    "m = 1\nlambda = 4\ndelta = 1\nresend = 4\nsuspect = 16\nattempt = 8\ncheckpoint = 50\n\
+    trim = 64\nwindow = 16\njournal = 67108864\n\
+    node = [{ id = 0, address = \"127.0.0.1:7300\" }, { id = 1, address = \"127.0.0.1:7301\" },\
+    { id = 2, address = \"127.0.0.1:7302\" }, { id = 3, address = \"127.0.0.1:7303\" },\
+    { id = 4, address = \"127.0.0.1:7304\" }, { id = 5, address = \"127.0.0.1:7305\" },\
+    { id = 6, address = \"127.0.0.1:7306\" }, { id = 7, address = \"127.0.0.1:7307\" },\
+    { id = 8, address = \"127.0.0.1:7308\" }]\n\
+    client = [{ id = 0, address = \"127.0.0.1:7400\" }]\n\
+    ring = [{ id = 0, acceptors = [0, 1, 2] }, { id = 1, acceptors = [1, 2, 0] },\
+    { id = 2, acceptors = [2, 0, 1] }]\n\
+    partition = [{ id = 0, replicas = [3, 4, 5], rings = [0, 2], home = 0, from = \"\", to = \"6d\",\
+    logs = [0], trim_quorum = 2, recovery_quorum = 2 },\
+    { id = 1, replicas = [6, 7, 8], rings = [1, 2], home = 1, from = \"6d\", to = \"\",\
+    logs = [1], trim_quorum = 2, recovery_quorum = 2 }]\n";
 
 // What a run ended with: the number and the text of its status, and what it wrote.
 #[derive(Drop, Debug)]
@@ -102,7 +119,7 @@ fn schedules_and_their_lines(rt: HostRuntime) -> Result<(), Fail> {
     let first = format!(in alloc; "{round}end 2\n")?;
     let again = format!(in alloc; "{round}end 7\n")?;
     let swapped = format!(in alloc;
-        "learn 1 0 1 2 {R1B}\nlearn 1 0 0 1 {R1A}\ndeliver 1 0 0\ndeliver 1 0 1\nend 5\n"
+        "learn 1 0 1 2 {BATCH_B}\nlearn 1 0 0 1 {BATCH_A}\ndeliver 1 0 0\ndeliver 1 0 1\nend 5\n"
     )?;
     let listed = format!(in alloc;
         "learn 1 0 0 1 {V}\ndeliver 1 0 0\n\
@@ -172,6 +189,56 @@ fn configurations_that_are_refused(rt: HostRuntime) -> Result<(), Fail> {
         let ended = outcome(alloc, "replay", config.as_str(), b"flow x\n", NONE)?;
         assert!(rt; ends_with(&ended, 2, text, ""), "{new:?}: {ended:?}");
     }
+    Ok(())
+}
+
+// A deployment of nine nodes is accepted and not built; a fault of it comes first.
+#[test]
+fn nine_nodes(rt: HostRuntime) -> Result<(), Fail> {
+    let alloc = rt.alloc();
+    let ended = outcome(alloc, "replay", NINE, b"flow x\n", NONE)?;
+    assert!(rt; ends_with(&ended, 2, "config 13", ""), "{ended:?}");
+    let Some((before, after)) = NINE.split_once("home = 1") else {
+        return Err(Fail::new("nothing to write over"));
+    };
+    let homeless = format!(in alloc; "{before}home = 0{after}")?;
+    let ended = outcome(alloc, "replay", homeless.as_str(), b"", NONE)?;
+    assert!(rt;
+        ends_with(&ended, 2, "config 6 partition.home 0", ""),
+        "{ended:?}"
+    );
+    Ok(())
+}
+
+// A configuration of 1,048,576 bytes is read, and one of a byte more is not looked into.
+#[test]
+fn one_byte_past_the_most(rt: HostRuntime) -> Result<(), Fail> {
+    let alloc = rt.alloc();
+    let mut config = String::from_str(alloc, CONFIG)?;
+    config.push('#')?;
+    for _turn in config.len()..1_048_576 {
+        config.push('x')?;
+    }
+    let ended = outcome(alloc, "replay", config.as_str(), b"", NONE)?;
+    assert!(rt; ends_with(&ended, 0, "", "end 0\n"), "{ended:?}");
+    config.push('x')?;
+    let ended = outcome(alloc, "replay", config.as_str(), b"", NONE)?;
+    assert!(rt; ends_with(&ended, 2, "config 11", ""), "{ended:?}");
+    Ok(())
+}
+
+#[test]
+fn one_event_past_the_most(rt: HostRuntime) -> Result<(), Fail> {
+    let alloc = rt.alloc();
+    let mut schedule = Vec::new(alloc);
+    for _turn in 0..1_048_577 {
+        schedule.extend_from_slice(b"list 0\n")?;
+    }
+    let ended = outcome(alloc, "replay", CONFIG, &schedule, NONE)?;
+    assert!(rt;
+        ends_with(&ended, 3, "input 1048577 toomany", ""),
+        "{ended:?}"
+    );
     Ok(())
 }
 

@@ -48,8 +48,11 @@ pub struct WriteSink<W: Write + Drop> {
 }
 
 impl<W: Write + Drop> WriteSink<W> {
-    /// Writes to `to`.
-    pub fn new(to: W) -> Self {
+    /// Writes to `to`. No write failed.
+    pub fn new(to: W) -> Self
+        ensures to { result.to ≡ to }
+        ensures faults { result.faults ≡ 0 }
+    {
         WriteSink { to, faults: 0 }
     }
 }

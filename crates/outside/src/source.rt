@@ -100,8 +100,12 @@ pub struct ReadSource<R: Read + Drop> {
 }
 
 impl<R: Read + Drop> ReadSource<R> {
-    /// Reads from `from`. `None` stands for what could not be opened.
-    pub fn new(from: Option<R>) -> Self {
+    /// Reads from `from`. `None` stands for what could not be opened. No read was made, and none failed.
+    pub fn new(from: Option<R>) -> Self
+        ensures from { result.from ≡ from }
+        ensures faults { result.faults ≡ 0 }
+        ensures reads { result.reads ≡ 0 }
+    {
         ReadSource {
             from,
             faults: 0,

@@ -10,9 +10,10 @@ use Rattle.transcript.specs.declared.line.Line.{Line}
 use Rattle.transcript.specs.declared.line.Line.TheVariants.{Learn, Deliver, Frame, End}
 use Rattle.plain_model.specs.Lines.{book, position_from}
 
--- The order in which nodes deliver: the rings to which a node subscribes, the number of each place among the places of
--- these rings, and the number from which on it is ready at the start.
+-- What the rules ask of a deployment: which nodes and rings it has; the rings to which a node subscribes, the number of each
+-- place among the places of these rings, and the number from which on the node is ready at the start.
 pub record Order : Type 0 where
+  pub fits : NodeId → RingId → Bool
   pub subscribes : NodeId → RingId → Bool
   pub number : NodeId → Place → ℕ
   pub ready : NodeId → ℕ
@@ -26,17 +27,20 @@ abbrev pub IsWide : Value → ℕ → ℕ → Type 0
 IsWide Skip lo hi = Unit {0}
 IsWide (Batch batch) lo hi = hi ≡ lo + 1
 
--- F1, of a learn line: a range of instances below END, of one instance where it has a batch, and for each instance of it
--- that is in the book this value there.
-pub record F1 (before : List Line) (ring : RingId) (lo hi : ℕ) (value : Value) : Type 0 where
+-- F1, of a learn line: a node and a ring that fit, a range of instances below END, of one instance where it has a batch, and
+-- for each instance of it that is in the book this value there.
+pub record F1 (o : Order) (before : List Line) (node : NodeId) (ring : RingId) (lo hi : ℕ) (value : Value) : Type 0 where
+  pub fits : IsTrue (o.fits node ring)
   pub some : lo < hi
   pub low : hi ≤ END
   pub wide : IsWide value lo hi
   pub agrees : (inst : ℕ) (known : Value) → lo ≤ inst → inst < hi → book before ring inst ≡ Some known → known ≡ value
 
--- F2, of a deliver line: the place holds a batch in the book, and the node's position is reached from it by skips: the
--- position isn't past the place, and each place in between is Skip in the book.
+-- F2, of a deliver line: a node and a ring that fit, a ring to which the node subscribes, a place that holds a batch in the
+-- book, and the node's position reaches it by skips: the position isn't past the place, and each place in between is Skip in
+-- the book.
 pub record F2 (o : Order) (before : List Line) (node : NodeId) (place : Place) : Type 0 where
+  pub fits : IsTrue (o.fits node place.ring)
   pub subscribed : IsTrue (o.subscribes node place.ring)
   pub holds : (batch : List ℕ) × (book before place.ring place.inst ≡ Some (Batch batch))
   pub not_past : position o before node ≤ o.number node place
@@ -45,7 +49,7 @@ pub record F2 (o : Order) (before : List Line) (node : NodeId) (place : Place) :
 
 -- the rule of a line, by its kind
 abbrev pub IsFaithfulLine : Order → List Line → Line → Type 0
-IsFaithfulLine o before (Learn node ring lo hi value) = F1 before ring lo hi value
+IsFaithfulLine o before (Learn node ring lo hi value) = F1 o before node ring lo hi value
 IsFaithfulLine o before (Deliver node ring inst) = F2 o before node (record { ring = ring; inst = inst })
 IsFaithfulLine o before (Frame number shown) = Unit {0}
 IsFaithfulLine o before (End events) = Unit {0}

@@ -17,7 +17,7 @@ pub enum ScheduleEvent {
     Deliver { frame: u64 },
     /// The cursor passes up to so many frames, which nobody gets.
     Lose { count: u32 },
-    /// The frame of this number is printed, where there is one; nothing moves.
+    /// The frame of this number is printed, or that there is none; nothing moves.
     List { frame: u64 },
 }
 

@@ -8,7 +8,7 @@ ghost use Rattle.text_lines.specs.Text.{spaced, hex_text};
 use mrp_types::{Memory, Octets};
 use std::alloc::Global;
 
-/// Adds a space and a word.
+/// Adds a space and a word. After a refusal nothing is said of what `out` holds.
 pub fn put_word(out: &mut Octets, word: &[u8]) -> Result<(), Memory>
     ensures { OnOk result (out.new ≡ out.old ++ spaced word.now) }
 {
@@ -16,21 +16,22 @@ pub fn put_word(out: &mut Octets, word: &[u8]) -> Result<(), Memory>
     out.extend(word)
 }
 
-/// Adds a space and a number in decimal.
+/// Adds a space and a number in decimal. After a refusal nothing is said of what `out` holds.
 pub fn put_number(alloc: Global, out: &mut Octets, number: u64) -> Result<(), Memory>
     ensures { OnOk result (out.new ≡ out.old ++ spaced (decimal number)) }
 {
     put_word(out, number.to_string(alloc)?.as_bytes())
 }
 
-/// Adds a space and bytes in lower-case hexadecimal.
+/// Adds a space and bytes in lower-case hexadecimal. After a refusal nothing is said of what `out` holds.
 pub fn put_hex(alloc: Global, out: &mut Octets, bytes: &[u8]) -> Result<(), Memory>
     ensures { OnOk result (out.new ≡ out.old ++ spaced (encode_lower bytes.now)) }
 {
     put_word(out, hex::encode(alloc, bytes)?.as_bytes())
 }
 
-/// Adds a space and bytes as `Words::hex` reads them: lower-case hexadecimal, `-` for none.
+/// Adds a space and bytes as `Words::hex` reads them: lower-case hexadecimal, `-` for none. After a refusal nothing is
+/// said of what `out` holds.
 pub fn put_bytes(alloc: Global, out: &mut Octets, bytes: &[u8]) -> Result<(), Memory>
     ensures { OnOk result (out.new ≡ out.old ++ spaced (hex_text bytes.now)) }
 {

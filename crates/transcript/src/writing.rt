@@ -20,7 +20,7 @@ pub fn write_line(alloc: Global, line: &Line) -> Result<Octets, Memory>
     Ok(out)
 }
 
-/// Adds a line to the text so far.
+/// Adds a line to the text so far. After a refusal nothing is said of what the text is.
 pub fn put_line(alloc: Global, out: &mut Octets, line: &Line) -> Result<(), Memory>
     ensures { OnOk result (out.new ≡ out.old ++ line_bytes line.now) }
 {

@@ -11,16 +11,17 @@ use Rattle.plain_model.specs.Lines.{book, position_after, deliveries, counted}
 use Rattle.plain_model.specs.Faithful.{F1, F2, IsFaithfulLine, IsFaithfulAfter, position}
 use Rattle.plain_model.proofs.Fronts.{position_from-append}
 use Rattle.mrp_config.specs.declared.tables.RingTable.{RingTable}
-use Rattle.world.specs.Order.{order_of}
+use Rattle.world.specs.Order.{is_of, order_of}
 
 -- a delivery is the next one of its node, of what the book has
 pub record Next (table : RingTable) (before : List Line) (node : NodeId) (ring : RingId) (inst : ℕ) : Type 0 where
   pub first : ring ≡ table.id
+  pub fits : IsTrue (is_of table node table.id)
   pub holds : (batch : List ℕ) × (book before table.id inst ≡ Some (Batch batch))
   pub next : position (order_of table) before node ≡ inst
 
 abbrev pub IsExactLine : RingTable → List Line → Line → Type 0
-IsExactLine table before (Learn node ring lo hi value) = F1 before ring lo hi value
+IsExactLine table before (Learn node ring lo hi value) = F1 (order_of table) before node ring lo hi value
 IsExactLine table before (Deliver node ring inst) = Next table before node ring inst
 IsExactLine table before (Frame number shown) = Unit {0}
 IsExactLine table before (End events) = Unit {0}
@@ -41,15 +42,15 @@ IsExactAfter-append table before (line ∷ front) rest first second = (
 
 next_is_faithful : (table : RingTable) (before : List Line) (node : NodeId) (ring : RingId) (inst : ℕ) → Next table before node ring inst →
     F2 (order_of table) before node (record { ring = ring; inst = inst })
-next_is_faithful table before node ring inst n = record {
-  subscribed = subst (λ (r : RingId). IsTrue (r.0 == table.id.0)) (sym n.first) (itself table.id.0);
-  holds = (n.holds.0, ap (λ (r : RingId). book before r inst) n.first ∙ n.holds.1);
-  not_past = omega (arith, n.next);
-  skips = λ other listed from below. absurd (omega (arith, n.next, from, below));
-}
-  where
-    itself : (n : ℕ) → (n == n) ≡ true
-    itself n = grind arith
+next_is_faithful table before node ring inst n =
+    let fits : IsTrue (is_of table node ring) = subst (λ (r : RingId). IsTrue (is_of table node r)) (sym n.first) n.fits in
+    record {
+      fits = fits;
+      subscribed = fits;
+      holds = (n.holds.0, ap (λ (r : RingId). book before r inst) n.first ∙ n.holds.1);
+      not_past = omega (arith, n.next);
+      skips = λ other listed from below. absurd (omega (arith, n.next, from, below));
+    }
 
 line_is_faithful : (table : RingTable) (before : List Line) (line : Line) → IsExactLine table before line → IsFaithfulLine (order_of table) before line
 line_is_faithful table before (Learn node ring lo hi value) is = is

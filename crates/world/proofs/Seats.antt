@@ -1,5 +1,6 @@
 -- Where acceptors sit.
-use Rattle.std.proofs.Common.{arith, ◌≡◌, ◌<◌, ℕ, zero, suc, List, [], ◌∷◌, length, get_or, Option, Some, None, refl, sym, ap, ◌∙◌, subst, ◌==◌}
+use Rattle.std.proofs.Common.{arith, ◌≡◌, ◌<◌, ℕ, zero, suc, List, [], ◌∷◌, length, get_or, Option, Some, None, refl, sym, ap, ◌∙◌, subst, Bool, true, ◌==◌, ◌&&◌, IsTrue}
+use Rattle.std.specs.Prelude.{is_some}
 use Rattle.std.specs.List.{AllByRecursion}
 use Rattle.std.specs.Option.{option_map}
 use Rattle.std.proofs.lemmas.Bool.{eqb-true}
@@ -12,6 +13,7 @@ use Rattle.mrp_types.proofs.TestLemmas.{some_is}
 use Rattle.mrp_config.specs.declared.tables.RingTable.{RingTable}
 use Rattle.world.specs.declared.seat.Seat.{Seat}
 use Rattle.world.specs.Ring.{seat_at, IsRing, IsSeat}
+use Rattle.world.specs.Order.{is_of}
 
 -- a node sits at its first position
 abbrev pub Sits : RingTable → Seat → Type 0
@@ -65,3 +67,10 @@ is_seat ring seat is sits =
       few = omega (arith, below, is.few);
       low = low_node ring.acceptors seat.position seat.node is.low below (found ring seat.node seat.position sits);
     }
+
+-- who sits in a ring is a node that fits
+pub seat_fits : (table : RingTable) (seat : Seat) → Sits table seat → IsTrue (is_of table seat.node table.id)
+seat_fits table seat sits = both_hold (is_some (seat_of seat.node table.acceptors)) table.id.0 (ap is_some sits)
+  where
+    both_hold : (b : Bool) (n : ℕ) → b ≡ true → (b && (n == n)) ≡ true
+    both_hold b n is = grind arith

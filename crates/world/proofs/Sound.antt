@@ -1,5 +1,5 @@
 -- Each event keeps the world and its lines exact.
-use Rattle.std.proofs.Common.{arith, ◌≡◌, ◌≢◌, ◌≤◌, ℕ, ◌+◌, List, [], ◌∷◌, ◌++◌, length, get_or, Some, refl, sym, ap, ◌∙◌, subst, append_assoc, append-nil, Bool, true, false, ◌==◌, ◌&&◌, nat_lt, if◌then◌else◌}
+use Rattle.std.proofs.Common.{arith, ◌≡◌, ◌≢◌, ◌≤◌, ℕ, ◌+◌, List, [], ◌∷◌, ◌++◌, length, get_or, Some, refl, sym, ap, ◌∙◌, subst, append_assoc, append-nil, Bool, true, false, ◌==◌, ◌&&◌, nat_lt, if◌then◌else◌, IsTrue}
 use Rattle.std.specs.List.{AllByRecursion}
 use Rattle.std.specs.Ordering.{nat_cmp}
 use Rattle.std.specs.BTreeMap.{insert_entry}
@@ -13,7 +13,7 @@ use Rattle.plain_model.specs.Lines.{book}
 use Rattle.plain_model.specs.Faithful.{F1, IsWide, position}
 use Rattle.plain_model.proofs.Fronts.{position_from-append}
 use Rattle.mrp_config.specs.declared.tables.RingTable.{RingTable}
-use Rattle.world.specs.Order.{order_of}
+use Rattle.world.specs.Order.{is_of, order_of}
 use Rattle.world.specs.Learner.{Learner, Learned, ready, learning, holds, after_line}
 use Rattle.world.proofs.Exact.{Next, IsExactAfter}
 use Rattle.world.proofs.Values.{IsOf, one_of, LineOf, book_is, book_has, HeldOf, LearnerOf, held_more, held_insert}
@@ -72,36 +72,37 @@ stands_learned : (table : RingTable) (before : List Line) (node other : NodeId) 
 stands_learned table before node other lo hi value = position_from-append (λ p. p.inst) other 0 before (Learn node table.id lo hi value ∷ [])
 
 by_ready : (table : RingTable) (t : Bool) (values : List (List ℕ)) (before : List Line) (node : NodeId) (next : ℕ) (e : ℕ × Value) (later : List (ℕ × Value)) →
-    ((e.0 == next) && nat_lt next END) ≡ t → position (order_of table) before node ≡ next → AllByRecursion (HeldOf table values before) (e ∷ later) →
+    ((e.0 == next) && nat_lt next END) ≡ t → IsTrue (is_of table node table.id) → position (order_of table) before node ≡ next → AllByRecursion (HeldOf table values before) (e ∷ later) →
     ((b : List Line) → position (order_of table) b node ≡ next + 1 → AllByRecursion (HeldOf table values b) later → Goes table values b node (ready table.id node (next + 1) later)) →
     Goes table values before node (if t then after_line (Deliver node table.id next) (ready table.id node (next + 1) later)
     else record { learner = record { next = next; ahead = e ∷ later }; lines = [] })
-by_ready table true values before node next e later test stands held go =
+by_ready table true values before node next e later test fits stands held go =
     let line = Deliver node table.id next in
     let key : e.0 ≡ next = same e.0 next (both (e.0 == next) (nat_lt next END) test).0 in
     let found : book before table.id next ≡ Some (Batch (get_or values e.0 [])) =
     ap (λ (k : ℕ). book before table.id k) (sym key) ∙ held.0.1 ∙ ap Some held.0.0.batch in
-    let exact : Next table before node table.id next = record { first = refl; holds = (get_or values e.0 [], found); next = stands } in
+    let exact : Next table before node table.id next = record { first = refl; fits = fits; holds = (get_or values e.0 [], found); next = stands } in
     goes_after table values before node line (ready table.id node (next + 1) later) (exact, tt) tt (λ other differs. stands_apart table before node other next differs)
     (go (before ++ line ∷ []) (stands_delivered table before node next) (held_more table values before (line ∷ []) later held.1))
   where
     same : (a b : ℕ) → (a == b) ≡ true → a ≡ b
     same a b h = grind arith
-by_ready table false values before node next e later test stands held go =
+by_ready table false values before node next e later test fits stands held go =
     goes_idle table values before node (record { next = next; ahead = e ∷ later }) (record { stands = stands; ahead = held })
 
 pub ready_goes : (table : RingTable) (values : List (List ℕ)) (before : List Line) (node : NodeId) (next : ℕ) (ahead : List (ℕ × Value)) →
-    position (order_of table) before node ≡ next → AllByRecursion (HeldOf table values before) ahead → Goes table values before node (ready table.id node next ahead)
-ready_goes table values before node next [] stands held = goes_idle table values before node (record { next = next; ahead = [] }) (record { stands = stands; ahead = tt })
-ready_goes table values before node next (e ∷ later) stands held =
-    by_ready table ((e.0 == next) && nat_lt next END) values before node next e later refl stands held
-    (λ b at all. ready_goes table values b node (next + 1) later at all)
+    IsTrue (is_of table node table.id) → position (order_of table) before node ≡ next → AllByRecursion (HeldOf table values before) ahead → Goes table values before node (ready table.id node next ahead)
+ready_goes table values before node next [] fits stands held = goes_idle table values before node (record { next = next; ahead = [] }) (record { stands = stands; ahead = tt })
+ready_goes table values before node next (e ∷ later) fits stands held =
+    by_ready table ((e.0 == next) && nat_lt next END) values before node next e later refl fits stands held
+    (λ b at all. ready_goes table values b node (next + 1) later fits at all)
 
 -- ---- a value that is learned
 
 learn_exact : (table : RingTable) (values : List (List ℕ)) (before : List Line) (node : NodeId) (inst : ℕ) (value : Value) → AllByRecursion (LineOf table values) before →
-    length values ≤ END → IsOf values inst value → F1 before table.id inst (inst + 1) value
-learn_exact table values before node inst value are low is = record {
+    length values ≤ END → IsTrue (is_of table node table.id) → IsOf values inst value → F1 (order_of table) before node table.id inst (inst + 1) value
+learn_exact table values before node inst value are low fits is = record {
+  fits = fits;
   some = omega arith;
   low = omega (arith, is.low, low);
   wide = subst (λ (v : Value). IsWide v inst (inst + 1)) (sym is.batch) refl;
@@ -111,20 +112,20 @@ learn_exact table values before node inst value are low is = record {
 }
 
 by_held : (table : RingTable) (t : Bool) (values : List (List ℕ)) (before : List Line) (node : NodeId) (inst : ℕ) (value : Value) (l : Learner) →
-    AllByRecursion (LineOf table values) before → length values ≤ END → IsOf values inst value → LearnerOf table values before node l →
+    AllByRecursion (LineOf table values) before → length values ≤ END → IsTrue (is_of table node table.id) → IsOf values inst value → LearnerOf table values before node l →
     Goes table values before node (if t then record { learner = l; lines = [] }
     else after_line (Learn node table.id inst (inst + 1) value) (ready table.id node l.next (insert_entry nat_cmp l.ahead inst value)))
-by_held table true values before node inst value l are low is learner = goes_idle table values before node l learner
-by_held table false values before node inst value l are low is learner =
+by_held table true values before node inst value l are low fits is learner = goes_idle table values before node l learner
+by_held table false values before node inst value l are low fits is learner =
     let line = Learn node table.id inst (inst + 1) value in
     let after = before ++ line ∷ [] in
     let held : AllByRecursion (HeldOf table values after) (insert_entry nat_cmp l.ahead inst value) =
     held_insert table values after l.ahead inst value (held_more table values before (line ∷ []) l.ahead learner.ahead) (is, book_has table values before node inst value are is) in
-    goes_after table values before node line (ready table.id node l.next (insert_entry nat_cmp l.ahead inst value)) (learn_exact table values before node inst value are low is, tt) (refl, refl, is)
+    goes_after table values before node line (ready table.id node l.next (insert_entry nat_cmp l.ahead inst value)) (learn_exact table values before node inst value are low fits is, tt) (refl, refl, is)
     (λ other differs. stands_learned table before node other inst (inst + 1) value)
-    (ready_goes table values after node l.next (insert_entry nat_cmp l.ahead inst value) (stands_learned table before node node inst (inst + 1) value ∙ learner.stands) held)
+    (ready_goes table values after node l.next (insert_entry nat_cmp l.ahead inst value) fits (stands_learned table before node node inst (inst + 1) value ∙ learner.stands) held)
 
 pub learning_goes : (table : RingTable) (values : List (List ℕ)) (before : List Line) (node : NodeId) (inst : ℕ) (value : Value) (l : Learner) →
-    AllByRecursion (LineOf table values) before → length values ≤ END → IsOf values inst value → LearnerOf table values before node l →
+    AllByRecursion (LineOf table values) before → length values ≤ END → IsTrue (is_of table node table.id) → IsOf values inst value → LearnerOf table values before node l →
     Goes table values before node (learning table.id node inst value l)
-learning_goes table values before node inst value l are low is learner = by_held table (holds l inst) values before node inst value l are low is learner
+learning_goes table values before node inst value l are low fits is learner = by_held table (holds l inst) values before node inst value l are low fits is learner

@@ -30,7 +30,7 @@ use Rattle.world.specs.Ring.{seat_at, majority, has_bit, with_bit, coordinator}
 use Rattle.world.specs.Learner.{Learner, Learned, nothing_learned, learning}
 use Rattle.world.specs.Order.{KeepsRules}
 use Rattle.world.specs.System.{World, Outcome, start, quiet, sends, passes_on, then_passes_on, request_of, request_cmp, client_cmp, asked_or, learner_at, learner_or, learns, decides, votes, submits, handles, handles_at, delivers, and_then, moves_on, flows, asks, happens, lines_from, trace}
-use Rattle.world.proofs.Seats.{Sits, same_seat, one_seat, seat_below, seat_sits}
+use Rattle.world.proofs.Seats.{Sits, same_seat, one_seat, seat_below, seat_sits, seat_fits}
 use Rattle.world.proofs.Exact.{same_node, stands_shown, IsExactAfter, IsExactAfter-append, exact_is_faithful, in_turn}
 use Rattle.world.proofs.Values.{IsOf, LineOf, lines_more, lines_append, BodyOf, SentOf, frames_more, frames_push, frame_at, LearnerOf, held_more, held_values}
 use Rattle.world.proofs.Sound.{Goes, learning_goes}
@@ -137,7 +137,7 @@ pub learned : (values : List (List ℕ)) (before : List Line) (w : World) (seat 
 learned values before w seat inst value s sits of =
     let l = learning w.ring.id seat.node inst value (learner_at w seat.position) in
     let all : length values ≤ END = subst (λ n. n ≤ END) (sym s.count) s.low in
-    let goes = learning_goes w.ring values before seat.node inst value (learner_at w seat.position) s.lines all of (s.learners seat sits) in
+    let goes = learning_goes w.ring values before seat.node inst value (learner_at w seat.position) s.lines all (seat_fits w.ring seat sits) of (s.learners seat sits) in
     record {
       exact = goes.exact;
       sound = record {

@@ -36,7 +36,8 @@ impl Learned {
         }
     }
 
-    /// Learns a value, and adds what is printed to the lines.
+    /// Learns a value, and adds what is printed to the lines. After a refusal nothing is said of what is learned or of the
+    /// lines.
     pub fn learn(
         &mut self,
         ring: RingId,

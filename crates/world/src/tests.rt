@@ -13,9 +13,9 @@ use transcript::put_line;
 // The batches of `hi` by client 0, of `a` by client 0 and of `b` by client 1, each with the number 1.
 const V: &str = "0100010000000000000000010006010000026869";
 
-const R1A: &str = "01000100000000000000000100050100000161";
+const BATCH_A: &str = "01000100000000000000000100050100000161";
 
-const R1B: &str = "01000101000000000000000100050100000162";
+const BATCH_B: &str = "01000101000000000000000100050100000162";
 
 // A deployment of seven nodes with one partition: these numbers, and these lists and tables as TOML.
 fn text_of(
@@ -142,7 +142,7 @@ fn three_acceptors(rt: HostRuntime) -> Result<(), Fail> {
         "learn 1 0 0 1 {V}\ndeliver 1 0 0\nlearn 2 0 0 1 {V}\ndeliver 2 0 0\nlearn 0 0 0 1 {V}\ndeliver 0 0 0\n"
     )?;
     let swapped = format!(in alloc;
-        "learn 1 0 1 2 {R1B}\nlearn 1 0 0 1 {R1A}\ndeliver 1 0 0\ndeliver 1 0 1\n"
+        "learn 1 0 1 2 {BATCH_B}\nlearn 1 0 0 1 {BATCH_A}\ndeliver 1 0 0\ndeliver 1 0 1\n"
     )?;
     let listed = format!(in alloc;
         "learn 1 0 0 1 {V}\ndeliver 1 0 0\nframe 2 n1 n2 4d52010600010000000000000000000000000000000001010014{V}\nframe 9 none\n"
@@ -227,7 +227,7 @@ fn commands_of_several_clients(rt: HostRuntime) -> Result<(), Fail> {
         1,
         &[Ask(0, b"a"), Lose(100), Ask(1, b"b"), Flow(1)],
     )?;
-    let want = format!(in alloc; "learn 7 0 0 1 {R1B}\ndeliver 7 0 0\n")?;
+    let want = format!(in alloc; "learn 7 0 0 1 {BATCH_B}\ndeliver 7 0 0\n")?;
     assert_eq!(rt; str::from_utf8(text.bytes()), Ok(want.as_str()));
     assert_eq!(rt; sent, 2);
     Ok(())
