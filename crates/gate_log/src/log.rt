@@ -5,7 +5,7 @@ ghost use Rattle.disk_model.specs.declared.area.Area.{Area};
 ghost use Rattle.disk_model.specs.declared.area.Area.TheVariants.{Journal0};
 ghost use Rattle.gate_area.specs.Standing.{stands};
 ghost use Rattle.gate_area.specs.declared.pair.Pair.TheVariants.{Journal};
-ghost use Rattle.gate_log.specs.Journal.{Holds, IsLogOf, append_calls, appended, compact_calls, compacted, find_calls, in_area, log_of, open_calls, other_of, records_in, renew_calls};
+ghost use Rattle.gate_log.specs.Journal.{Holds, IsFound, IsLogOf, append_calls, appended, compact_calls, compacted, find_calls, in_area, log_of, open_calls, other_of, records_in, renew_calls};
 ghost use Rattle.gate_log.specs.Moments.{Finds, IsWant, LogCauses, OldOrNew, SameRecords, SinceSync};
 ghost use Rattle.gate_log.specs.Records.{StandsFor, area_body, base_of, walk_of, end_of};
 ghost use Rattle.gate_log.specs.declared.fault.LogFault.TheVariants.{Damaged, Full};
@@ -77,6 +77,7 @@ impl GateLog {
         ensures room { IfOk result (λ opened. end_of opened.1.items < 2 ^ 63) }
         ensures limit { IfOk result (λ opened. opened.0.limit ≡ limit) }
         ensures finds { (t : Told) → Tells (D.told disk.old) (D.honest disk.old) t → Finds (λ opened. opened.1.items) (records_in (reads t)) result }
+        ensures log { (t : Told) → Tells (D.told disk.old) (D.honest disk.old) t → IfOk result (λ opened. IsFound limit opened.1.items (stands Journal (reads t)) opened.0) }
         ensures full { (len : ℕ) → IsErrOf result (Full len) → ⊥ }
         ensures calls { OnOk result (Makes (D.honest disk.old) (D.told disk.old) (D.told disk.new) open_calls) }
         ensures some { MakesFirst (D.honest disk.old) (D.told disk.old) (D.told disk.new) open_calls }
@@ -206,6 +207,7 @@ fn find<D: Disk>(
     ensures room { IfOk result (λ opened. end_of opened.1.items < 2 ^ 63) }
     ensures limit { IfOk result (λ opened. opened.0.limit ≡ limit) }
     ensures finds { (t : Told) → Tells (D.told disk.old) (D.honest disk.old) t → Finds (λ opened. opened.1.items) (records_in (reads t)) result }
+    ensures log { (t : Told) → Tells (D.told disk.old) (D.honest disk.old) t → IfOk result (λ opened. IsFound limit opened.1.items (stands Journal (reads t)) opened.0) }
     ensures full { (len : ℕ) → IsErrOf result (Full len) → ⊥ }
     ensures calls { OnOk result (Makes (D.honest disk.old) (D.told disk.old) (D.told disk.new) find_calls) }
     ensures some { MakesFirst (D.honest disk.old) (D.told disk.old) (D.told disk.new) find_calls }

@@ -8,7 +8,7 @@ use Rattle.gate_area.specs.Standing.{stands}
 use Rattle.gate_log.specs.Journal.{begin_calls, find_calls, in_area, log_of, records_in, records_of}
 use Rattle.gate_log.specs.Moments.{Finds, IsWant, SameRecords, surveyed_as}
 use Rattle.gate_log.specs.Records.{StandsFor, walk_of}
-use Rattle.gate_log.proofs.Answering.{Found, errs, finds_fault, fresh_stands, area_stands, finds_fresh, both, if_ok, on_ok, always_ok, causes_fault, holds_fresh, holds_standing}
+use Rattle.gate_log.proofs.Answering.{Found, errs, finds_fault, fresh_stands, area_stands, finds_fresh, both, if_ok, on_ok, always_ok, causes_fault, holds_fresh, holds_standing, found_fresh, found_standing}
 use Rattle.gate_log.proofs.Moves.{Judgement}
 use Rattle.gate_log.proofs.Opens.{tells_as, fresh_makes, fresh_some, fresh_log}
 use Rattle.gate_log.proofs.Phases.{stays_leaves, makes_none, makes_first_none, makes_as, told_is}
@@ -89,3 +89,13 @@ returns-in-At-clause-holds g c t u tells now_tells =
     (if_ok c.resume.result (λ o. StandsFor o.1.items (area_bytes area t)) (λ o. StandsFor o.1.items (bytes_of area (reads u))) (c.resume.ensures.content t mid)
     (λ o here. subst (λ (f : List ℕ). StandsFor o.1.items f) (sym (reads-bytes t area) ∙ ap (λ (x : Told). bytes_of area (reads x)) (sym same)) here))
     (ap (λ (x : Told). stands Journal (reads x)) same ∙ standing)
+
+pub returns-in-None-clause-log : goal.returns-in-None-clause-log
+returns-in-None-clause-log g c t tells =
+    found_fresh c.begin.result c.args.limit (reads t) c.begin.ensures.log c.begin.ensures.records
+    (fresh_stands (reads t) (c.in_ok-survey.ensures.answer t tells ∙ ap Ok c.in-None.is))
+
+pub returns-in-At-clause-log : goal.returns-in-At-clause-log
+returns-in-At-clause-log g c t tells =
+    found_standing c.resume.result c.in-At.area c.in-At.generation c.args.limit (reads t) c.resume.ensures.log
+    (area_stands (reads t) c.in-At.area c.in-At.generation c.in-At.len (c.in_ok-survey.ensures.answer t tells ∙ ap Ok c.in-At.is))

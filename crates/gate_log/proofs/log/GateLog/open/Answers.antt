@@ -1,9 +1,11 @@
-use Rattle.std.proofs.Common.{◌≡◌, subst, inr, [], ◌∷◌}
+use Rattle.std.proofs.Common.{◌≡◌, subst, inr, [], ◌∷◌, IfOk}
 use Rattle.disk_model.specs.declared.areas.Areas.{Areas}
 use Rattle.disk_model.specs.declared.call.Call.TheVariants.{Sync}
 use Rattle.disk_model.specs.Calls.{LeavesOnly, and_then, reads}
 use Rattle.disk_model.proofs.Reading.{reads_synced}
-use Rattle.gate_log.specs.Journal.{Holds, IsLogOf, find_calls, records_in}
+use Rattle.gate_area.specs.declared.pair.Pair.TheVariants.{Journal}
+use Rattle.gate_area.specs.Standing.{stands}
+use Rattle.gate_log.specs.Journal.{Holds, IsFound, IsLogOf, find_calls, records_in}
 use Rattle.gate_log.specs.Moments.{Finds, SameRecords, refused_as}
 use Rattle.gate_log.proofs.Answering.{errs, finds_refused, if_ok, on_ok}
 use Rattle.gate_log.proofs.Opens.{open_makes, open_some, sync_settles, tells_before}
@@ -23,6 +25,11 @@ pub returns-clause-finds : goal.returns-clause-finds
 returns-clause-finds g c t tells =
     let mid = synced_tells (g.D.Disk.told c.args.disk.now) (g.D.Disk.told c.sync.new.self) (g.D.Disk.honest c.args.disk.now) (g.D.Disk.honest c.sync.new.self) t c.in_ok-sync.ensures.told c.sync.ensures.honest tells in
     subst (λ (areas : Areas). Finds (λ opened. opened.1.items) (records_in areas) c.find.result) (reads_synced t) (c.find.ensures.finds (and_then t (Sync ∷ [])) mid)
+
+pub returns-clause-log : goal.returns-clause-log
+returns-clause-log g c t tells =
+    let mid = synced_tells (g.D.Disk.told c.args.disk.now) (g.D.Disk.told c.sync.new.self) (g.D.Disk.honest c.args.disk.now) (g.D.Disk.honest c.sync.new.self) t c.in_ok-sync.ensures.told c.sync.ensures.honest tells in
+    subst (λ (areas : Areas). IfOk c.find.result (λ opened. IsFound c.args.limit opened.1.items (stands Journal areas) opened.0)) (reads_synced t) (c.find.ensures.log (and_then t (Sync ∷ [])) mid)
 
 pub returns-clause-calls : goal.returns-clause-calls
 returns-clause-calls g c =
