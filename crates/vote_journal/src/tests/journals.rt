@@ -4,8 +4,8 @@ ghost use Rattle.std.specs.List.{AllByRecursion};
 ghost use Rattle.vote_state.specs.Valid.{IsChange};
 ghost use Rattle.vote_journal.specs.Epochs.{epochs_rise};
 
-use crate::{OpenFault, VoteJournal};
-use disk_model::{Area, Disk, SimDisk};
+use crate::{JournalFault, OpenFault, VoteJournal};
+use disk_model::{Area, Disk, Image, SimDisk};
 use mrp_types::{Memory, NodeId, RingId, Value, Voted};
 use std::alloc::Global;
 use std::test::*;
@@ -171,5 +171,234 @@ fn a_compaction_stays(rt: HostRuntime) -> Result<(), Fail> {
     let mut disk = SimDisk::empty(rt.alloc());
     compact(rt.alloc(), &mut disk)?;
     assert!(rt; stands(rt.alloc(), &mut disk, &want)?);
+    Ok(())
+}
+
+// Why a journal was refused, at its opening or later.
+#[derive(Clone, Copy, Debug, PartialEq)]
+enum Refusal {
+    Open(OpenFault),
+    Write(JournalFault),
+    Other,
+}
+
+impl From<OpenFault> for Refusal {
+    fn from(fault: OpenFault) -> Self {
+        Refusal::Open(fault)
+    }
+}
+
+impl From<JournalFault> for Refusal {
+    fn from(fault: JournalFault) -> Self {
+        Refusal::Write(fault)
+    }
+}
+
+impl From<Memory> for Refusal {
+    fn from(_: Memory) -> Self {
+        Refusal::Other
+    }
+}
+
+// A journal with room for so many bytes of records gets a record of these changes, and one in place of all if
+// `compacts`: the place after its first record, and its end.
+fn ends_with<D: Disk>(
+    alloc: Global,
+    disk: &mut D,
+    room: u16,
+    changes: &Changes,
+    compacts: bool,
+) -> Result<[u64; 2], Refusal>
+    requires changes { AllByRecursion IsChange changes.now }
+    requires epochs { (before : ℕ) → IsTrue (epochs_rise before changes.now) }
+{
+    let journal = VoteJournal::open(alloc, disk, NodeId(0), 17 + u64::from(room))?;
+    let journal = journal.record(disk, changes)?;
+    if !compacts {
+        return Ok([journal.base_end(), journal.end()]);
+    }
+    if journal.generation() == u64::MAX {
+        return Err(Refusal::Other);
+    }
+    let journal = journal.compact(disk)?;
+    Ok([journal.base_end(), journal.end()])
+}
+
+// Of a promise.
+fn ends_of_promise<D: Disk>(
+    alloc: Global,
+    disk: &mut D,
+    room: u16,
+    compacts: bool,
+) -> Result<[u64; 2], Refusal> {
+    let changes = a_promise(alloc)?;
+    ends_with(alloc, disk, room, &changes, compacts)
+}
+
+// Of no change.
+fn ends_of_none<D: Disk>(alloc: Global, disk: &mut D, room: u16) -> Result<[u64; 2], Refusal> {
+    ends_with(alloc, disk, room, &Changes::new(alloc), false)
+}
+
+// A vote for ten instances and one within them.
+fn two_votes(alloc: Global) -> Result<Changes, Memory>
+    ensures changes { IfOk result (λ changes. AllByRecursion IsChange changes) }
+    ensures epochs { IfOk result (λ changes. (before : ℕ) → IsTrue (epochs_rise before changes)) }
+{
+    let mut changes = Changes::new(alloc);
+    changes.vote(
+        RING,
+        Voted {
+            lo: 0,
+            hi: 10,
+            ballot: 3,
+            value: Value::Skip,
+        },
+    )?;
+    changes.vote(
+        RING,
+        Voted {
+            lo: 4,
+            hi: 6,
+            ballot: 4,
+            value: Value::Skip,
+        },
+    )?;
+    Ok(changes)
+}
+
+// Of these votes, which a compaction keeps as three.
+fn ends_of_votes<D: Disk>(
+    alloc: Global,
+    disk: &mut D,
+    room: u16,
+    compacts: bool,
+) -> Result<[u64; 2], Refusal> {
+    let changes = two_votes(alloc)?;
+    ends_with(alloc, disk, room, &changes, compacts)
+}
+
+// What no area has room for.
+fn open_full(len: u64) -> Result<[u64; 2], Refusal> {
+    Err(Refusal::Open(OpenFault::Full(len)))
+}
+
+fn write_full(len: u64) -> Result<[u64; 2], Refusal> {
+    Err(Refusal::Write(JournalFault::Full(len)))
+}
+
+// A first record of 7 bytes ends at 17 + 5 + 7.
+#[test]
+fn an_opening_without_room(rt: HostRuntime) -> Result<(), Fail> {
+    for (room, want) in [
+        (0, open_full(29)),
+        (11, open_full(29)),
+        (12, Ok([29, 29])),
+    ] {
+        let mut disk = SimDisk::empty(rt.alloc());
+        assert_eq!(rt; ends_of_none(rt.alloc(), &mut disk, room), want, "{room}");
+    }
+    // The next one has 5 bytes.
+    for (room, want) in [(21, open_full(39)), (22, Ok([29, 39]))] {
+        let mut disk = SimDisk::empty(rt.alloc());
+        assert_eq!(rt; ends_of_none(rt.alloc(), &mut disk, 12), Ok([29, 29]));
+        assert_eq!(rt; ends_of_none(rt.alloc(), &mut disk, room), want, "{room}");
+    }
+    Ok(())
+}
+
+// A record of a promise has 10 bytes, one of the two votes 54; the states' records have 17 and 88.
+#[test]
+fn records_and_compactions_without_room(rt: HostRuntime) -> Result<(), Fail> {
+    for (room, compacts, want) in [
+        (26, false, write_full(44)),
+        (27, false, Ok([29, 44])),
+        (27, true, Ok([39, 39])),
+    ] {
+        let mut disk = SimDisk::empty(rt.alloc());
+        let ends = ends_of_promise(rt.alloc(), &mut disk, room, compacts);
+        assert_eq!(rt; ends, want, "{room} {compacts}");
+    }
+    for (room, compacts, want) in [
+        (70, false, write_full(88)),
+        (71, false, Ok([29, 88])),
+        (71, true, write_full(110)),
+        (92, true, write_full(110)),
+        (93, true, Ok([110, 110])),
+    ] {
+        let mut disk = SimDisk::empty(rt.alloc());
+        let ends = ends_of_votes(rt.alloc(), &mut disk, room, compacts);
+        assert_eq!(rt; ends, want, "{room} {compacts}");
+    }
+    Ok(())
+}
+
+// The opening of an empty disk makes 13 calls that write, cut or sync, a record 4, a compaction 8.
+#[test]
+fn no_changes_make_no_call(rt: HostRuntime) -> Result<(), Fail> {
+    let mut disk = SimDisk::empty(rt.alloc());
+    disk.fuse(13);
+    assert_eq!(rt; ends_of_none(rt.alloc(), &mut disk, 12), Ok([29, 29]));
+    assert_eq!(rt; disk.bytes(Area::Journal0), OPENED.as_slice());
+    assert!(rt; !disk.stopped());
+    Ok(())
+}
+
+// What a promise and a compaction answer where the call after so many fails, once or for good, and the state that
+// the disk then has without what isn't synced.
+fn stopped_after(
+    alloc: Global,
+    calls: u32,
+    once: bool,
+) -> Result<(Result<[u64; 2], Refusal>, Summary), Fail> {
+    let mut disk = SimDisk::empty(alloc);
+    if once {
+        disk.fail(calls);
+    } else {
+        disk.fuse(calls);
+    }
+    let ends = ends_of_promise(alloc, &mut disk, 1000, true);
+    let mut left = disk.crash(Image::Old)?;
+    Ok((ends, reopen(alloc, &mut left)?))
+}
+
+#[test]
+fn records_and_compactions_that_are_stopped(rt: HostRuntime) -> Result<(), Fail> {
+    let stopped = Err(Refusal::Write(JournalFault::Disk));
+    for (from, to, want, epoch, promise) in [
+        (0, 13, Err(Refusal::Open(OpenFault::Disk)), 1, 0),
+        (13, 17, stopped, 2, 0),
+        (17, 25, stopped, 2, 4),
+        (25, 26, Ok([39, 39]), 2, 4),
+    ] {
+        for calls in from..to {
+            for once in [false, true] {
+                let (ends, left) = stopped_after(rt.alloc(), calls, once)?;
+                assert_eq!(rt; ends, want, "{calls} {once}");
+                assert_eq!(rt; (left.epoch, left.promise), (epoch, promise), "{calls} {once}");
+            }
+        }
+    }
+    Ok(())
+}
+
+// A record of one byte 0 behind the first one, which is another node's; and the last epoch where there is no room.
+#[test]
+fn which_fault_comes_first(rt: HostRuntime) -> Result<(), Fail> {
+    for (node, want) in [
+        (1, OpenFault::WrongNode(NodeId(0))),
+        (0, OpenFault::BadRecord(28)),
+    ] {
+        let mut bytes = OPENED[..28].to_vec(rt.alloc())?;
+        bytes.extend_from_slice(&[1, 0, 0, 0, 1, 0, 0])?;
+        let mut disk = disk_of(rt.alloc(), bytes, Vec::new(rt.alloc()));
+        let fault = refusal(rt.alloc(), &mut disk, NodeId(node));
+        assert_eq!(rt; fault, Some(want), "{node}");
+    }
+    let mut bytes = OPENED[..24].to_vec(rt.alloc())?;
+    bytes.extend_from_slice(&[255, 255, 255, 255, 0])?;
+    let mut disk = disk_of(rt.alloc(), bytes, Vec::new(rt.alloc()));
+    let fault = ends_of_none(rt.alloc(), &mut disk, 0).err();
+    assert_eq!(rt; fault, Some(Refusal::Open(OpenFault::EpochLimit)));
     Ok(())
 }
