@@ -17,7 +17,7 @@ use Rattle.gate_log.specs.declared.fault.LogFault.TheVariants.{Disk, Full, Memor
 use Rattle.gate_log.specs.Journal.{Log, Holds, IsFound, log_of, records_of, records_in}
 use Rattle.gate_log.specs.Moments.{IsWant, Finds, LogCauses, refused_as, surveyed_as}
 use Rattle.gate_log.specs.Records.{StandsFor}
-use Rattle.gate_log.proofs.Moves.{Judgement}
+use Rattle.gate_log.proofs.Moves.{Judgement, e_area}
 
 abbrev pub Found : Type 0
 Found = Result (List (List ℕ)) (Area × ℕ)
@@ -173,3 +173,17 @@ pub found_standing : (r : Result Opened LogFault) (area : Area) (generation limi
     → IfOk r (λ o. IsFound limit o.1.items (stands Journal areas) o.0)
 found_standing (Ok o) area generation limit areas is standing = subst (λ (j : Judgement). IsFound limit o.1.items j o.0) (sym standing) is
 found_standing (Err e) area generation limit areas is standing = tt
+
+abbrev no_area : Judgement
+no_area = Ok None
+
+abbrev an_area : Area → ℕ → Judgement
+an_area area generation = Ok (Some (area, generation))
+
+-- a fresh pair has no area that stands
+pub fresh_has_none : (j : Judgement) (area : Area) (generation : ℕ) → j ≡ Ok None → j ≡ Ok (Some (area, generation)) → ⊥
+fresh_has_none j area generation fresh stood = let no : no_area ≡ an_area area generation = sym fresh ∙ stood in cc
+
+-- one area stands
+pub one_stands : (j : Judgement) (a area : Area) (k generation : ℕ) → j ≡ Ok (Some (a, k)) → j ≡ Ok (Some (area, generation)) → a ≡ area
+one_stands j a area k generation one other = sym (e_area a k area generation (sym one ∙ other))

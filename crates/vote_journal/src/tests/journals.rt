@@ -176,27 +176,27 @@ fn a_compaction_stays(rt: HostRuntime) -> Result<(), Fail> {
 
 // Why a journal was refused, at its opening or later.
 #[derive(Clone, Copy, Debug, PartialEq)]
-enum Refusal {
+enum AnyFault {
     Open(OpenFault),
     Write(JournalFault),
     Other,
 }
 
-impl From<OpenFault> for Refusal {
+impl From<OpenFault> for AnyFault {
     fn from(fault: OpenFault) -> Self {
-        Refusal::Open(fault)
+        AnyFault::Open(fault)
     }
 }
 
-impl From<JournalFault> for Refusal {
+impl From<JournalFault> for AnyFault {
     fn from(fault: JournalFault) -> Self {
-        Refusal::Write(fault)
+        AnyFault::Write(fault)
     }
 }
 
-impl From<Memory> for Refusal {
+impl From<Memory> for AnyFault {
     fn from(_: Memory) -> Self {
-        Refusal::Other
+        AnyFault::Other
     }
 }
 
@@ -208,7 +208,7 @@ fn ends_with<D: Disk>(
     room: u16,
     changes: &Changes,
     compacts: bool,
-) -> Result<[u64; 2], Refusal>
+) -> Result<[u64; 2], AnyFault>
     requires changes { AllByRecursion IsChange changes.now }
     requires epochs { (before : ℕ) → IsTrue (epochs_rise before changes.now) }
 {
@@ -218,7 +218,7 @@ fn ends_with<D: Disk>(
         return Ok([journal.base_end(), journal.end()]);
     }
     if journal.generation() == u64::MAX {
-        return Err(Refusal::Other);
+        return Err(AnyFault::Other);
     }
     let journal = journal.compact(disk)?;
     Ok([journal.base_end(), journal.end()])
@@ -230,13 +230,13 @@ fn ends_of_promise<D: Disk>(
     disk: &mut D,
     room: u16,
     compacts: bool,
-) -> Result<[u64; 2], Refusal> {
+) -> Result<[u64; 2], AnyFault> {
     let changes = a_promise(alloc)?;
     ends_with(alloc, disk, room, &changes, compacts)
 }
 
 // Of no change.
-fn ends_of_none<D: Disk>(alloc: Global, disk: &mut D, room: u16) -> Result<[u64; 2], Refusal> {
+fn ends_of_none<D: Disk>(alloc: Global, disk: &mut D, room: u16) -> Result<[u64; 2], AnyFault> {
     ends_with(alloc, disk, room, &Changes::new(alloc), false)
 }
 
@@ -273,28 +273,24 @@ fn ends_of_votes<D: Disk>(
     disk: &mut D,
     room: u16,
     compacts: bool,
-) -> Result<[u64; 2], Refusal> {
+) -> Result<[u64; 2], AnyFault> {
     let changes = two_votes(alloc)?;
     ends_with(alloc, disk, room, &changes, compacts)
 }
 
 // What no area has room for.
-fn open_full(len: u64) -> Result<[u64; 2], Refusal> {
-    Err(Refusal::Open(OpenFault::Full(len)))
+fn open_full(len: u64) -> Result<[u64; 2], AnyFault> {
+    Err(AnyFault::Open(OpenFault::Full(len)))
 }
 
-fn write_full(len: u64) -> Result<[u64; 2], Refusal> {
-    Err(Refusal::Write(JournalFault::Full(len)))
+fn write_full(len: u64) -> Result<[u64; 2], AnyFault> {
+    Err(AnyFault::Write(JournalFault::Full(len)))
 }
 
 // A first record of 7 bytes ends at 17 + 5 + 7.
 #[test]
 fn an_opening_without_room(rt: HostRuntime) -> Result<(), Fail> {
-    for (room, want) in [
-        (0, open_full(29)),
-        (11, open_full(29)),
-        (12, Ok([29, 29])),
-    ] {
+    for (room, want) in [(0, open_full(29)), (11, open_full(29)), (12, Ok([29, 29]))] {
         let mut disk = SimDisk::empty(rt.alloc());
         assert_eq!(rt; ends_of_none(rt.alloc(), &mut disk, room), want, "{room}");
     }
@@ -307,7 +303,7 @@ fn an_opening_without_room(rt: HostRuntime) -> Result<(), Fail> {
     Ok(())
 }
 
-// A record of a promise has 10 bytes, one of the two votes 54; the states' records have 17 and 88.
+// A record of a promise has 10 bytes, one of the two votes 58; the records of the states have 17 and 94.
 #[test]
 fn records_and_compactions_without_room(rt: HostRuntime) -> Result<(), Fail> {
     for (room, compacts, want) in [
@@ -320,11 +316,11 @@ fn records_and_compactions_without_room(rt: HostRuntime) -> Result<(), Fail> {
         assert_eq!(rt; ends, want, "{room} {compacts}");
     }
     for (room, compacts, want) in [
-        (70, false, write_full(88)),
-        (71, false, Ok([29, 88])),
-        (71, true, write_full(110)),
-        (92, true, write_full(110)),
-        (93, true, Ok([110, 110])),
+        (74, false, write_full(92)),
+        (75, false, Ok([29, 92])),
+        (75, true, write_full(116)),
+        (98, true, write_full(116)),
+        (99, true, Ok([116, 116])),
     ] {
         let mut disk = SimDisk::empty(rt.alloc());
         let ends = ends_of_votes(rt.alloc(), &mut disk, room, compacts);
@@ -350,7 +346,7 @@ fn stopped_after(
     alloc: Global,
     calls: u32,
     once: bool,
-) -> Result<(Result<[u64; 2], Refusal>, Summary), Fail> {
+) -> Result<(Result<[u64; 2], AnyFault>, Summary), Fail> {
     let mut disk = SimDisk::empty(alloc);
     if once {
         disk.fail(calls);
@@ -364,9 +360,9 @@ fn stopped_after(
 
 #[test]
 fn records_and_compactions_that_are_stopped(rt: HostRuntime) -> Result<(), Fail> {
-    let stopped = Err(Refusal::Write(JournalFault::Disk));
+    let stopped = Err(AnyFault::Write(JournalFault::Disk));
     for (from, to, want, epoch, promise) in [
-        (0, 13, Err(Refusal::Open(OpenFault::Disk)), 1, 0),
+        (0, 13, Err(AnyFault::Open(OpenFault::Disk)), 1, 0),
         (13, 17, stopped, 2, 0),
         (17, 25, stopped, 2, 4),
         (25, 26, Ok([39, 39]), 2, 4),
@@ -375,7 +371,11 @@ fn records_and_compactions_that_are_stopped(rt: HostRuntime) -> Result<(), Fail>
             for once in [false, true] {
                 let (ends, left) = stopped_after(rt.alloc(), calls, once)?;
                 assert_eq!(rt; ends, want, "{calls} {once}");
-                assert_eq!(rt; (left.epoch, left.promise), (epoch, promise), "{calls} {once}");
+                assert_eq!(rt;
+                    (left.epoch, left.promise),
+                    (epoch, promise),
+                    "{calls} {once}"
+                );
             }
         }
     }
@@ -399,6 +399,6 @@ fn which_fault_comes_first(rt: HostRuntime) -> Result<(), Fail> {
     bytes.extend_from_slice(&[255, 255, 255, 255, 0])?;
     let mut disk = disk_of(rt.alloc(), bytes, Vec::new(rt.alloc()));
     let fault = ends_of_none(rt.alloc(), &mut disk, 0).err();
-    assert_eq!(rt; fault, Some(Refusal::Open(OpenFault::EpochLimit)));
+    assert_eq!(rt; fault, Some(AnyFault::Open(OpenFault::EpochLimit)));
     Ok(())
 }
