@@ -1,4 +1,4 @@
-// The four areas of a disk, why a call is refused, and which image a crash is to leave.
+//! The four areas of a disk, why a call is refused, and which image a crash is to leave.
 ghost use Rattle.std.specs.Prelude.{◌≡◌, ◌<◌, IsTrue, ◌↔◌};
 ghost use Rattle.disk_model.specs.declared.area.Refused.TheVariants.{Memory};
 ghost use Rattle.disk_model.specs.Areas.{number_of};

@@ -1,4 +1,4 @@
-// The contents of the four areas.
+//! The contents of the four areas.
 ghost use Rattle.std.specs.Prelude.{◌≡◌, take, OnOk, OnErr};
 ghost use Rattle.disk_model.specs.Steps.{written};
 

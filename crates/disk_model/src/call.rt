@@ -1,4 +1,4 @@
-// A call of a disk that took effect.
+//! A call of a disk that took effect.
 use crate::{Area, Octets};
 
 /// A call that changed what a disk holds, or what of it a crash leaves.

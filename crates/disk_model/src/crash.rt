@@ -1,4 +1,4 @@
-// What a crash leaves of one area, found from the bytes at the start and the calls since.
+//! What a crash leaves of one area, found from the bytes at the start and the calls since.
 ghost use Rattle.std.specs.Prelude.{◌≡◌, ◌≤◌, ◌⊎◌, slice_index_or, [], ◌∷◌, length, IfOk, OnOk};
 ghost use Rattle.disk_model.specs.Calls.{own};
 ghost use Rattle.disk_model.specs.Crash.{left_of, covers, IsLastSync};

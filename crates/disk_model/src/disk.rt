@@ -1,4 +1,4 @@
-// The disk as the layers above see it.
+//! The disk as the layers above see it.
 ghost use Rattle.std.specs.Prelude.{◌≡◌, ◌≤◌, ◌+◌, ℕ, Bool, Option, [], ◌∷◌, length, OnOk, OnErr, IfOk};
 ghost use Rattle.disk_model.specs.Calls.{Told, Tells, followed, area_bytes};
 ghost use Rattle.disk_model.specs.Causes.{Causes, GivesBytes, ForetoldChange, ForetoldRead, ForetoldLen};

@@ -1,4 +1,4 @@
-// A disk of four areas that can stop at every moment, and what a crash then leaves of them.
+//! A disk of four areas that can stop at every moment, and what a crash then leaves of them.
 #![tactic(auto)]
 
 mod area;

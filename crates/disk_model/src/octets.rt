@@ -1,4 +1,4 @@
-// A list of bytes that its holder owns.
+//! A list of bytes that its holder owns.
 ghost use Rattle.std.specs.Prelude.{◌≡◌, ◌≤◌, ◌-◌, min, length, take, IfOk, OnOk, OnErr};
 ghost use Rattle.disk_model.specs.Steps.{written};
 

@@ -1,4 +1,4 @@
-// Which calls of a disk in memory are to fail.
+//! Which calls of a disk in memory are to fail.
 ghost use Rattle.std.specs.Prelude.{◌≡◌, ◌≤◌, None, Some, true, false};
 
 /// After how many calls that pass a fault comes; none where there is no number. `fuse` and `fail` count

@@ -1,4 +1,4 @@
-// A disk in memory, which can be told to fail and to crash.
+//! A disk in memory, which can be told to fail and to crash.
 ghost use Rattle.std.specs.Prelude.{◌≡◌, ◌≤◌, ◌<◌, ◌+◌, ◌++◌, [], ◌∷◌, length, take, drop, min, None, Some, true, false, IfOk, OnOk, OnErr, IsErrOf, if◌then◌else◌};
 ghost use Rattle.disk_model.specs.Areas.{bytes_of, with_bytes};
 ghost use Rattle.disk_model.specs.Calls.{Told, Tells, and_then, begun, followed, area_bytes, reads, kept, IsImage};

@@ -1,4 +1,4 @@
-// The gate steps on a pair of areas: an area counts with its whole body or not at all, at each moment.
+//! The gate steps on a pair of areas: an area counts with its whole body or not at all, at each moment.
 #![tactic(auto)]
 
 mod looking;

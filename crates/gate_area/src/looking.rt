@@ -1,4 +1,4 @@
-// What a pair of areas stands for.
+//! What a pair of areas stands for.
 ghost use Rattle.std.specs.Prelude.{◌≡◌, ◌&&◌, nat_lt, take, Some, IfOk, OnOk};
 ghost use Rattle.disk_model.specs.Calls.{Told, Tells, area_bytes, reads};
 ghost use Rattle.disk_model.specs.Causes.{Causes, read_passed};

@@ -1,4 +1,4 @@
-// A pair of areas, and what was found of it.
+//! A pair of areas, and what was found of it.
 ghost use Rattle.std.specs.Prelude.{◌≡◌};
 ghost use Rattle.gate_area.specs.Standing.{first_of, second_of, fault_of};
 

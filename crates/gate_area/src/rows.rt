@@ -1,4 +1,4 @@
-// Worked rows, on the definitions alone: a fresh journal is begun on an empty disk, and stopped on the way.
+//! Worked rows, on the definitions alone: a fresh journal is begun on an empty disk, and stopped on the way.
 ghost use Rattle.std.specs.Prelude.{◌≡◌, [], ◌∷◌, take, Ok, Some, None};
 ghost use Rattle.disk_model.specs.Calls.{and_then, area_bytes, kept, reads};
 ghost use Rattle.disk_model.specs.Crash.{left_of, left_by};

@@ -1,4 +1,4 @@
-// Closing and opening the gate of an area.
+//! Closing and opening the gate of an area.
 ghost use Rattle.std.specs.Prelude.{◌≡◌, ◌≤◌, ◌<◌, ◌-◌, ◌^◌, length, OnOk};
 ghost use Rattle.disk_model.specs.Calls.{Told, Tells, Makes, MakesFirst, LeavesOnly, IsSettled, and_then, area_bytes, reads};
 ghost use Rattle.disk_model.specs.Causes.{Causes};

@@ -2,6 +2,7 @@
 use Rattle.std.proofs.Common.{◌≡◌, ℕ, inl, inr, List, [], Vec, None, Some, Result, Ok, Err, IsErrAnd, IsErrOf, IfOk, OnOk, MatchResult, length, refl, ap, sym, ◌∙◌, subst}
 use Rattle.std.specs.declared.alloc.Global.{Global}
 use Rattle.disk_model.specs.declared.area.Area.{Area}
+use Rattle.disk_model.specs.declared.area.Area.TheVariants.{Journal0}
 use Rattle.disk_model.specs.declared.area.Refused.{Refused}
 use Rattle.disk_model.specs.declared.area.Refused.TheVariants.{Failed, Memory as Wanting}
 use Rattle.disk_model.specs.declared.areas.Areas.{Areas}
@@ -13,10 +14,10 @@ use Rattle.gate_area.specs.declared.pair.SurveyFault.TheVariants.{Disk as NoDisk
 use Rattle.gate_area.specs.Standing.{answer_at, answer_of, Answers, SurveyCauses, stands}
 use Rattle.gate_log.specs.declared.fault.LogFault.{LogFault}
 use Rattle.gate_log.specs.declared.fault.LogFault.TheVariants.{Disk, Full, Memory}
-use Rattle.gate_log.specs.Journal.{Log, Holds, log_of, records_of, records_in}
+use Rattle.gate_log.specs.Journal.{Log, Holds, IsFound, log_of, records_of, records_in}
 use Rattle.gate_log.specs.Moments.{IsWant, Finds, LogCauses, refused_as, surveyed_as}
 use Rattle.gate_log.specs.Records.{StandsFor}
-use Rattle.gate_log.proofs.Moves.{Judgement}
+use Rattle.gate_log.proofs.Moves.{Judgement, e_area}
 
 abbrev pub Found : Type 0
 Found = Result (List (List ℕ)) (Area × ℕ)
@@ -159,3 +160,30 @@ pub holds_standing : (r : Result Opened LogFault) (area : Area) (generation limi
 holds_standing (Ok o) area generation limit areas is content standing =
     subst (λ l. Holds l o.1.items areas) (sym is) (record { standing = standing; content = content; end = refl; base_end = refl })
 holds_standing (Err e) area generation limit areas is content standing = tt
+
+-- the log that is begun is the one of a fresh pair
+pub found_fresh : (r : Result Opened LogFault) (limit : ℕ) (areas : Areas) → IfOk r (λ o. o.0 ≡ log_of Journal0 1 limit []) → IfOk r (λ o. o.1.items ≡ []) → stands Journal areas ≡ Ok None
+    → IfOk r (λ o. IsFound limit o.1.items (stands Journal areas) o.0)
+found_fresh (Ok o) limit areas is none fresh =
+    subst (λ (j : Judgement). IsFound limit o.1.items j o.0) (sym fresh) (is ∙ ap (λ (rs : List (List ℕ)). log_of Journal0 1 limit rs) (sym none))
+found_fresh (Err e) limit areas is none fresh = tt
+
+-- the log of an area that stands is its own
+pub found_standing : (r : Result Opened LogFault) (area : Area) (generation limit : ℕ) (areas : Areas) → IfOk r (λ o. o.0 ≡ log_of area generation limit o.1.items) → stands Journal areas ≡ Ok (Some (area, generation))
+    → IfOk r (λ o. IsFound limit o.1.items (stands Journal areas) o.0)
+found_standing (Ok o) area generation limit areas is standing = subst (λ (j : Judgement). IsFound limit o.1.items j o.0) (sym standing) is
+found_standing (Err e) area generation limit areas is standing = tt
+
+abbrev no_area : Judgement
+no_area = Ok None
+
+abbrev an_area : Area → ℕ → Judgement
+an_area area generation = Ok (Some (area, generation))
+
+-- a fresh pair has no area that stands
+pub fresh_has_none : (j : Judgement) (area : Area) (generation : ℕ) → j ≡ Ok None → j ≡ Ok (Some (area, generation)) → ⊥
+fresh_has_none j area generation fresh stood = let no : no_area ≡ an_area area generation = sym fresh ∙ stood in cc
+
+-- one area stands
+pub one_stands : (j : Judgement) (a area : Area) (k generation : ℕ) → j ≡ Ok (Some (a, k)) → j ≡ Ok (Some (area, generation)) → a ≡ area
+one_stands j a area k generation one other = sym (e_area a k area generation (sym one ∙ other))

@@ -87,6 +87,16 @@ appended log r = record log { end = log.end + (5 + length r); base_end = if log.
 abbrev pub log_of : Area → ℕ → ℕ → List (List ℕ) → Log
 log_of area generation limit records = record { area = area; generation = generation; end = end_of records; base_end = base_of records; limit = limit }
 
+-- the log with these records of the area that stands, or of the one that is begun where none does
+abbrev pub log_at : ℕ → List (List ℕ) → Option (Area × ℕ) → Log
+log_at limit records None = log_of Journal0 1 limit records
+log_at limit records (Some (area, generation)) = log_of area generation limit records
+
+-- the log that an opening gives, by what stands
+abbrev pub IsFound : ℕ → List (List ℕ) → Result (Option (Area × ℕ)) (Area × ℕ) → Log → Type 0
+IsFound limit records (Ok standing) log = log ≡ log_at limit records standing
+IsFound limit records (Err spot) log = ⊥
+
 -- the log of the other area with one record
 abbrev pub compacted : Log → List ℕ → Log
 compacted log r = log_of (other_of log.area) (log.generation + 1) log.limit (r ∷ [])

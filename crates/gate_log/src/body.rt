@@ -1,4 +1,4 @@
-// A record that is to be written.
+//! A record that is to be written.
 ghost use Rattle.std.specs.Prelude.{◌≡◌, ◌⊎◌, ◌≤◌, ◌<◌, ◌+◌, ◌^◌, ◌++◌, [], length, drop, OnOk, OnErr};
 ghost use Rattle.gate_log.specs.Records.{behind_gate, inner, sealed, u32_bytes};
 

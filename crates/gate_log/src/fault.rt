@@ -1,4 +1,4 @@
-// Why an operation on a log is refused.
+//! Why an operation on a log is refused.
 ghost use Rattle.std.specs.Prelude.{◌≡◌};
 ghost use Rattle.gate_log.specs.Moments.{refused_as, surveyed_as};
 ghost use Rattle.gate_log.specs.declared.fault.LogFault.TheVariants.{Memory as Wanting};

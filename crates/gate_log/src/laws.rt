@@ -1,4 +1,4 @@
-// What the walk over an area is good for, on the definitions alone.
+//! What the walk over an area is good for, on the definitions alone.
 ghost use Rattle.std.specs.Prelude.{◌≡◌, ◌<◌, ℕ, List, Ok, slice_index};
 ghost use Rattle.gate_log.specs.Records.{StandsFor, walk_of};
 

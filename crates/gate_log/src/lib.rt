@@ -1,4 +1,4 @@
-// A log of records in a pair of areas: each operation leaves the records before or after, at each moment.
+//! A log of records in a pair of areas: each operation leaves the records before or after, at each moment.
 #![tactic(auto)]
 
 mod body;

@@ -1,12 +1,15 @@
-// A log of records on a disk.
-ghost use Rattle.std.specs.Prelude.{◌≡◌, ◌==◌, if◌then◌else◌, ◌≤◌, ◌<◌, ◌+◌, ◌-◌, ◌^◌, ◌++◌, ◌↔◌, ℕ, List, [], ◌∷◌, length, OnOk, IfOk, IsErrOf, MatchResult, Ok, None};
+//! A log of records on a disk.
+ghost use Rattle.std.specs.Prelude.{◌≡◌, ◌==◌, if◌then◌else◌, ◌≤◌, ◌<◌, ◌+◌, ◌-◌, ◌^◌, ◌++◌, ◌↔◌, ℕ, List, [], ◌∷◌, length, OnOk, IfOk, IsErrOf, MatchResult, Ok, None, Some};
 ghost use Rattle.disk_model.specs.Calls.{Told, Tells, Makes, MakesFirst, LeavesOnly, IsSettled, area_bytes, reads};
+ghost use Rattle.disk_model.specs.Causes.{change_passed, read_passed};
+ghost use Rattle.disk_model.specs.declared.plan.Plan.{Plan};
 ghost use Rattle.disk_model.specs.declared.area.Area.{Area};
 ghost use Rattle.disk_model.specs.declared.area.Area.TheVariants.{Journal0};
 ghost use Rattle.gate_area.specs.Standing.{stands};
 ghost use Rattle.gate_area.specs.declared.pair.Pair.TheVariants.{Journal};
-ghost use Rattle.gate_log.specs.Journal.{Holds, IsLogOf, append_calls, appended, compact_calls, compacted, find_calls, in_area, log_of, open_calls, other_of, records_in, renew_calls};
+ghost use Rattle.gate_log.specs.Journal.{Holds, IsFound, IsLogOf, append_calls, appended, compact_calls, compacted, find_calls, in_area, log_of, open_calls, other_of, records_in, renew_calls};
 ghost use Rattle.gate_log.specs.Moments.{Finds, IsWant, LogCauses, OldOrNew, SameRecords, SinceSync};
+ghost use Rattle.gate_log.specs.Reading.{pieces_of, reads_passed};
 ghost use Rattle.gate_log.specs.Records.{StandsFor, area_body, base_of, walk_of, end_of};
 ghost use Rattle.gate_log.specs.declared.fault.LogFault.TheVariants.{Damaged, Full};
 
@@ -75,8 +78,12 @@ impl GateLog {
         requires least { 17 ≤ limit }
         requires most { limit < 2 ^ 32 }
         ensures room { IfOk result (λ opened. end_of opened.1.items < 2 ^ 63) }
+        // where an area stands a sync passes, the two reads of the survey, and those of the whole area
+        ensures reads { (t : Told) (p : Plan) (area : Area) (generation : ℕ) → Tells (D.told disk.old) (D.honest disk.old) t → D.plan disk.old ≡ Some p → stands Journal (reads t) ≡ Ok (Some (area, generation)) →
+            OnOk result (D.plan disk.new ≡ Some (reads_passed (pieces_of (area_bytes area t)) (read_passed (read_passed (change_passed p))))) }
         ensures limit { IfOk result (λ opened. opened.0.limit ≡ limit) }
         ensures finds { (t : Told) → Tells (D.told disk.old) (D.honest disk.old) t → Finds (λ opened. opened.1.items) (records_in (reads t)) result }
+        ensures log { (t : Told) → Tells (D.told disk.old) (D.honest disk.old) t → IfOk result (λ opened. IsFound limit opened.1.items (stands Journal (reads t)) opened.0) }
         ensures full { (len : ℕ) → IsErrOf result (Full len) → ⊥ }
         ensures calls { OnOk result (Makes (D.honest disk.old) (D.told disk.old) (D.told disk.new) open_calls) }
         ensures some { MakesFirst (D.honest disk.old) (D.told disk.old) (D.told disk.new) open_calls }
@@ -204,8 +211,11 @@ fn find<D: Disk>(
     requires limit { limit < 2 ^ 32 }
     requires settled { (t : Told) → Tells (D.told disk.old) (D.honest disk.old) t → IsSettled t }
     ensures room { IfOk result (λ opened. end_of opened.1.items < 2 ^ 63) }
+    ensures reads { (t : Told) (p : Plan) (area : Area) (generation : ℕ) → Tells (D.told disk.old) (D.honest disk.old) t → D.plan disk.old ≡ Some p → stands Journal (reads t) ≡ Ok (Some (area, generation)) →
+        OnOk result (D.plan disk.new ≡ Some (reads_passed (pieces_of (area_bytes area t)) (read_passed (read_passed p)))) }
     ensures limit { IfOk result (λ opened. opened.0.limit ≡ limit) }
     ensures finds { (t : Told) → Tells (D.told disk.old) (D.honest disk.old) t → Finds (λ opened. opened.1.items) (records_in (reads t)) result }
+    ensures log { (t : Told) → Tells (D.told disk.old) (D.honest disk.old) t → IfOk result (λ opened. IsFound limit opened.1.items (stands Journal (reads t)) opened.0) }
     ensures full { (len : ℕ) → IsErrOf result (Full len) → ⊥ }
     ensures calls { OnOk result (Makes (D.honest disk.old) (D.told disk.old) (D.told disk.new) find_calls) }
     ensures some { MakesFirst (D.honest disk.old) (D.told disk.old) (D.told disk.new) find_calls }
@@ -269,6 +279,7 @@ fn resume<D: Disk>(
     ensures room { IfOk result (λ opened. end_of opened.1.items < 2 ^ 63) }
     ensures log { IfOk result (λ opened. opened.0 ≡ log_of area generation limit opened.1.items) }
     ensures finds { (t : Told) → Tells (D.told disk.old) (D.honest disk.old) t → Finds (λ opened. opened.1.items) (in_area area (walk_of (area_bytes area t))) result }
+    ensures reads { (t : Told) (p : Plan) → Tells (D.told disk.old) (D.honest disk.old) t → D.plan disk.old ≡ Some p → OnOk result (D.plan disk.new ≡ Some (reads_passed (pieces_of (area_bytes area t)) p)) }
     ensures content { (t : Told) → Tells (D.told disk.old) (D.honest disk.old) t → IfOk result (λ opened. StandsFor opened.1.items (area_bytes area t)) }
     ensures full { (len : ℕ) → IsErrOf result (Full len) → ⊥ }
     ensures told { D.told disk.new ≡ D.told disk.old }

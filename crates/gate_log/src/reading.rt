@@ -1,7 +1,9 @@
-// All bytes of an area.
-ghost use Rattle.std.specs.Prelude.{◌≡◌, length, IfOk, MatchResult};
+//! All bytes of an area.
+ghost use Rattle.std.specs.Prelude.{◌≡◌, length, IfOk, OnOk, MatchResult, Some};
 ghost use Rattle.disk_model.specs.Calls.{Told, Tells, area_bytes};
+ghost use Rattle.disk_model.specs.declared.plan.Plan.{Plan};
 ghost use Rattle.gate_log.specs.Moments.{IsWant, LogCauses};
+ghost use Rattle.gate_log.specs.Reading.{pieces_of, reads_passed};
 
 use crate::LogFault;
 use disk_model::{Area, Disk};
@@ -14,6 +16,7 @@ const PAGE: usize = 65_536;
 pub fn read_all<D: Disk>(alloc: Global, disk: &mut D, area: Area) -> Result<Vec<u8>, LogFault>
     ensures bytes { (t : Told) → Tells (D.told disk.old) (D.honest disk.old) t → IfOk result (λ bytes. bytes.items ≡ area_bytes area t) }
     ensures want { MatchResult result (λ _. Unit {0}) IsWant }
+    ensures reads { (t : Told) (p : Plan) → Tells (D.told disk.old) (D.honest disk.old) t → D.plan disk.old ≡ Some p → OnOk result (D.plan disk.new ≡ Some (reads_passed (pieces_of (area_bytes area t)) p)) }
     ensures told { D.told disk.new ≡ D.told disk.old }
     ensures honest { D.honest disk.new ≡ D.honest disk.old }
     ensures causes { LogCauses (D.faults disk.old) (D.faults disk.new) result }

@@ -1,4 +1,4 @@
-// An area of a log that gets a new content, whole or not at all.
+//! An area of a log that gets a new content, whole or not at all.
 ghost use Rattle.std.specs.Prelude.{◌≡◌, ◌≤◌, ◌<◌, ◌^◌, [], ◌∷◌, length, OnOk, IfOk};
 ghost use Rattle.disk_model.specs.Calls.{Told, Tells, Makes, MakesFirst, LeavesOnly, IsSettled, reads};
 ghost use Rattle.disk_model.specs.Causes.{Causes};

@@ -1,4 +1,4 @@
-// Worked rows, on the definitions alone: an append and a compaction that are stopped on the way.
+//! Worked rows, on the definitions alone: an append and a compaction that are stopped on the way.
 ghost use Rattle.std.specs.Prelude.{◌≡◌, [], ◌∷◌, take, Ok};
 ghost use Rattle.disk_model.specs.Calls.{and_then, area_bytes, kept};
 ghost use Rattle.disk_model.specs.Crash.{left_of, left_by};

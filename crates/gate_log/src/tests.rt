@@ -1,5 +1,5 @@
 use super::*;
-use disk_model::{Area, Disk, Image, SimDisk};
+use disk_model::{Area, Disk, Image, Refused, SimDisk};
 use mrp_types::Octets;
 use std::alloc::Global;
 use std::test::Fail;
@@ -351,6 +351,105 @@ fn reads_that_fail(rt: HostRuntime) -> Result<(), Fail> {
         (3, None),
     ] {
         assert_eq!(rt; refused_read(rt.alloc(), k)?, fault, "{k}");
+    }
+    Ok(())
+}
+
+// A disk in memory that notes the first five reads: of which area, from where, and of how many bytes.
+#[derive(Drop)]
+struct Noting {
+    disk: SimDisk,
+    reads: [(u8, u64, usize); 5],
+    count: usize,
+}
+
+impl Disk for Noting {
+    ghost told = { λ d. ⟦<SimDisk as Disk>⟧.told d.disk };
+
+    ghost honest = { λ d. ⟦<SimDisk as Disk>⟧.honest d.disk };
+
+    ghost plan = { λ d. ⟦<SimDisk as Disk>⟧.plan d.disk };
+
+    ghost faults = { λ d. ⟦<SimDisk as Disk>⟧.faults d.disk };
+
+    fn len(&mut self, area: Area) -> Result<u64, Refused> {
+        self.disk.len(area)
+    }
+
+    fn read(&mut self, area: Area, at: u64, into: &mut [u8]) -> Result<usize, Refused> {
+        if self.count < 5 {
+            self.reads[self.count] = (area.number(), at, into.len());
+        }
+        self.count = self.count.saturating_add(1);
+        self.disk.read(area, at, into)
+    }
+
+    fn write_at(&mut self, area: Area, at: u64, from: &[u8]) -> Result<(), Refused> {
+        self.disk.write_at(area, at, from)
+    }
+
+    fn cut(&mut self, area: Area, len: u64) -> Result<(), Refused> {
+        self.disk.cut(area, len)
+    }
+
+    fn sync(&mut self) -> Result<(), Refused> {
+        self.disk.sync()
+    }
+}
+
+// The reads of an opening of this disk.
+fn reads_of(alloc: Global, disk: SimDisk) -> Result<([(u8, u64, usize); 5], usize), Fail> {
+    let mut noting = Noting {
+        disk,
+        reads: [(9, 9, 9); 5],
+        count: 0,
+    };
+    let _ = records(alloc, &mut noting)?;
+    Ok((noting.reads, noting.count))
+}
+
+// A disk whose first area is a log without records and so many bytes long.
+fn long_log(alloc: Global, len: usize) -> Result<SimDisk, Fail> {
+    let mut bytes = FRESH.to_vec(alloc)?;
+    bytes.resize(len, 7)?;
+    Ok(SimDisk::with(
+        alloc,
+        [bytes, Vec::new(alloc), Vec::new(alloc), Vec::new(alloc)],
+    ))
+}
+
+// Those of the survey, and the area that stands from its start on, until a read gives less than it asked for.
+#[test]
+fn the_reads_of_an_opening(rt: HostRuntime) -> Result<(), Fail> {
+    let none = (9, 9, 9);
+    let first = (0, 0, 65_536);
+    let second = (0, 65_536, 65_536);
+    let third = (0, 131_072, 65_536);
+    for (len, pages, count) in [
+        (17, [first, none, none], 3),
+        (65_535, [first, none, none], 3),
+        (65_536, [first, second, none], 4),
+        (65_537, [first, second, none], 4),
+        (131_072, [first, second, third], 5),
+    ] {
+        let reads = reads_of(rt.alloc(), long_log(rt.alloc(), len)?)?;
+        let want = [(0, 0, 17), (1, 0, 17), pages[0], pages[1], pages[2]];
+        assert_eq!(rt; reads, (want, count), "{len}");
+    }
+    Ok(())
+}
+
+// One that was begun isn't read.
+#[test]
+fn the_reads_of_a_beginning(rt: HostRuntime) -> Result<(), Fail> {
+    let reads = reads_of(rt.alloc(), SimDisk::empty(rt.alloc()))?;
+    let none = (9, 9, 9);
+    let want = [(0, 0, 17), (1, 0, 17), none, none, none];
+    assert_eq!(rt; reads, (want, 2));
+    for (k, fault) in [(1, Some(LogFault::Disk)), (2, None)] {
+        let mut disk = SimDisk::empty(rt.alloc());
+        disk.fail_read(k);
+        assert_eq!(rt; refusal(rt.alloc(), &mut disk), fault, "{k}");
     }
     Ok(())
 }

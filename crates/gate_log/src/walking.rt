@@ -1,4 +1,4 @@
-// The records in the bytes of an area.
+//! The records in the bytes of an area.
 ghost use Rattle.std.specs.Prelude.{◌≡◌, ◌≤◌, ◌<◌, ◌+◌, length, drop, take, IfOk};
 ghost use Rattle.gate_log.specs.Records.{StandsFor, walk_of, gate_of, mark_of, u32_of};
 ghost use Rattle.gate_log.specs.Walking.{Walks, IsMark};

@@ -1,20 +1,24 @@
 -- An opening: what it answers, and what a crash leaves meanwhile.
-use Rattle.std.proofs.Common.{arith, ◌≡◌, ◌⊎◌, inl, inr, ℕ, ◌+◌, ◌<◌, ◌^◌, true, List, [], ◌∷◌, ◌++◌, length, take, ◌==◌, Option, Some, Result, Ok, Err, refl, sym, ap, ◌∙◌, subst}
-use Rattle.std.proofs.lemmas.List.{take_all}
+use Rattle.std.proofs.Common.{arith, ◌≡◌, ◌⊎◌, inl, inr, ℕ, ◌+◌, ◌<◌, ◌≤◌, ◌^◌, min, Bool, true, List, [], ◌∷◌, ◌++◌, length, take, ◌==◌, Option, None, Some, Result, Ok, Err, refl, sym, ap, ◌∙◌, subst}
+use Rattle.std.proofs.Math.Seq.{take-append-add}
+use Rattle.std.proofs.lemmas.Bool.{cases_lt}
+use Rattle.std.proofs.lemmas.List.{take-append-le, take_all}
 use Rattle.std.specs.List.{AllByRecursion}
 use Rattle.mrp_types.specs.declared.id.NodeId.{NodeId}
 use Rattle.disk_model.specs.declared.area.Area.{Area}
 use Rattle.disk_model.specs.declared.areas.Areas.{Areas}
 use Rattle.disk_model.specs.declared.call.Call.{Call}
 use Rattle.disk_model.specs.declared.call.Call.TheVariants.{Sync}
-use Rattle.disk_model.specs.Calls.{Told, and_then, IsImage, LeavesOnly, reads}
+use Rattle.disk_model.specs.Calls.{Told, Tells, and_then, made_by, Makes, MakesFirst, IsImage, LeavesOnly, reads}
+use Rattle.gate_area.specs.declared.pair.Pair.TheVariants.{Journal as JournalPair}
+use Rattle.gate_area.specs.Standing.{stands}
 use Rattle.gate_log.specs.declared.fault.LogFault.{LogFault}
 use Rattle.gate_log.specs.declared.fault.LogFault.TheVariants as logs
-use Rattle.gate_log.specs.Journal.{Log, Holds, records_in, find_calls, open_calls}
+use Rattle.gate_log.specs.Journal.{Log, Holds, IsFound, records_in, log_at, append_calls, appended, find_calls, open_calls}
 use Rattle.gate_log.specs.Moments.{ChecksStay, OldOrNew, SameRecords, SinceSync, Finds}
 use Rattle.gate_log.specs.Moments as moments
 use Rattle.gate_log.proofs.Moves.{reads_image}
-use Rattle.gate_log.proofs.Phases.{leaves_as, leaves_on, told_is}
+use Rattle.gate_log.proofs.Phases.{and_then-and_then, leaves_as, leaves_on, makes_as, makes_on, told_is}
 use Rattle.vote_state.specs.declared.change.Change.TheVariants.{Epoch}
 use Rattle.vote_state.specs.State.{State, nothing_kept, taken}
 use Rattle.vote_state.specs.Valid.{IsChange}
@@ -24,7 +28,7 @@ use Rattle.vote_journal.specs.Epochs.{epochs_rise}
 use Rattle.vote_journal.specs.Spelling.{first_bytes}
 use Rattle.vote_journal.specs.Faults.{opened_as}
 use Rattle.vote_journal.specs.Grammar.{first_of}
-use Rattle.vote_journal.specs.Journal.{first_state, state_of, next_epoch, epoch_record, opened_state, opening_of, opened_end, Journal, state_in, Stands, OpenLeaves, IsWant, OpensAs, OpensBy}
+use Rattle.vote_journal.specs.Journal.{first_state, state_of, next_epoch, epoch_record, opened_state, opening_of, opened_end, epoch_calls, judged_calls, Journal, state_in, Stands, OpenLeaves, IsOpened, IsWant, OpensAs, OpensBy}
 use Rattle.vote_journal.proofs.RecordLaws.{whole_first_again}
 use Rattle.vote_journal.proofs.Recording.{one_more}
 
@@ -84,6 +88,85 @@ pub no_room : {T : Type 0} (listed : T → List (List ℕ)) (x : T) (id : NodeId
 no_room listed x id limit (Ok records) old s e is so_far more never full =
     unwritten id limit records old s e (subst (λ (rs : List (List ℕ)). state_of id rs ≡ Ok old) is so_far) more never (subst (λ (rs : List (List ℕ)). (len : ℕ) → e ≡ logs.Full len → (len ≡ opened_end id rs old) × (limit < len)) is full)
 no_room listed x id limit (Err (area, at)) old s e is so_far more never full = absurd is
+
+-- the record of the epoch was written
+pub with_room : {T : Type 0} (listed : T → List (List ℕ)) (x : T) (id : NodeId) (limit : ℕ) (found : Found) (old : State) (j : Journal) → Finds listed found (Ok x) → state_of id (listed x) ≡ Ok old → opened_state old ≡ Ok j.state
+    → j.id ≡ id → j.log.limit ≡ limit → j.log.end ≡ opened_end id (listed x) old → j.log.end ≤ limit → OpensBy id limit found (Ok j)
+with_room listed x id limit (Ok records) old j is so_far more own same end room =
+    subst (λ (rs : List (List ℕ)). OpensAs id limit rs (opening_of id rs) (Ok j)) is
+    (subst (λ (o : Result State OpenFault). OpensAs id limit (listed x) o (Ok j)) (sym (opens so_far more)) (
+      own,
+      refl,
+      same,
+      λ other here. let one = one_state old other (sym so_far ∙ here) in
+          (end ∙ ap (opened_end id (listed x)) one, subst (λ n. n ≤ limit) (end ∙ ap (opened_end id (listed x)) one) room),
+    ))
+  where
+    opens : state_of id (listed x) ≡ Ok old → opened_state old ≡ Ok j.state → opening_of id (listed x) ≡ Ok j.state
+    opens so_far more = rw so_far more
+
+    done : State → Result State OpenFault
+    done s = Ok s
+
+    one_state : (a b : State) → done a ≡ done b → a ≡ b
+    one_state a b h = cc
+with_room listed x id limit (Err (area, at)) old j is so_far more own same end room = absurd is
+
+-- what isn't longer than a limit where more would be refused
+pub within : {X : Type 0} (limit long : ℕ) → (limit < long → X × ⊥) → long ≤ limit
+within limit long never = elim (cases_lt limit long) [ inl over ↦ absurd (never over).1 | inr low ↦ low ]
+
+-- ---- the calls, and the log
+
+-- the calls of the record are those that the bytes make
+pub judged_are : (id : NodeId) (limit : ℕ) (standing : Result (Option (Area × ℕ)) (Area × ℕ)) (found : Found) (records : List (List ℕ)) (old : State) (log : Log) (bytes : List ℕ) → IsFound limit records standing log → found ≡ Ok records → state_of id records ≡ Ok old
+    → bytes ≡ epoch_record id records old → judged_calls id limit standing found ≡ append_calls log bytes
+judged_are id limit (Ok standing) found records old log bytes is found_is so_far spelled =
+    ap (judged_calls id limit (Ok standing)) found_is
+    ∙ ap (epoch_calls id (log_at limit records standing) records) so_far
+    ∙ ap (λ (b : List ℕ). append_calls (log_at limit records standing) b) (sym spelled)
+    ∙ ap (λ (l : Log). append_calls l bytes) (sym is)
+judged_are id limit (Err spot) found records old log bytes is found_is so_far spelled = absurd is
+
+-- all were made
+pub all_made : (honest honest' : Bool) (old mid now : Option Told) (xs ys : Told → List Call) (cs : List Call) → honest' ≡ honest → Makes honest old mid xs → Makes honest' mid now (λ t. cs) → ((t : Told) → Tells old honest t → ys t ≡ cs) → Makes honest old now (λ t. xs t ++ ys t)
+all_made honest honest' old mid now xs ys cs same first second is =
+    makes_as honest old now (λ t. xs t ++ cs) (λ t. xs t ++ ys t) (λ t tells. ap (λ ds. xs t ++ ds) (sym (is t tells)))
+    (makes_on honest old mid now xs cs first (λ h. second (same ∙ h)))
+
+-- only some of the first ones
+pub first_made : (honest : Bool) (old now : Option Told) (xs ys : Told → List Call) → MakesFirst honest old now xs → MakesFirst honest old now (λ t. xs t ++ ys t)
+first_made honest None now xs ys (j, made) = (j, made)
+first_made honest (Some t) now xs ys (j, made) = (min j (length (xs t)), λ h. made h ∙ ap (λ cs. Some (and_then t cs)) (sym (cut j (length (xs t)) (xs t) (ys t) refl)))
+  where
+    cut : (j n : ℕ) (cs ds : List Call) → n ≡ length cs → take (min j n) (cs ++ ds) ≡ take j cs
+    cut j n cs ds size = take-append-le (min j n) cs ds (omega (arith, size)) ∙ elim (cases_lt n j) [
+      | inl more ↦ ap (λ k. take k cs) (let e : min j n ≡ n = omega arith in e) ∙ take_all n cs (omega (arith, size)) ∙ sym (take_all j cs (omega (arith, size)))
+      | inr less ↦ ap (λ k. take k cs) (let e : min j n ≡ j = omega arith in e)
+    ]
+
+-- all of the first ones, and some of the others
+pub then_made : (honest honest' : Bool) (old mid now : Option Told) (xs ys : Told → List Call) (cs : List Call) → honest' ≡ honest → Makes honest old mid xs → MakesFirst honest' mid now (λ t. cs) → ((t : Told) → Tells old honest t → ys t ≡ cs) → MakesFirst honest old now (λ t. xs t ++ ys t)
+then_made honest honest' None mid now xs ys cs same first (j, made) is = (0, λ h. made (same ∙ h) ∙ ap (made_by (λ t. take j cs)) (first h))
+then_made honest honest' (Some t) mid now xs ys cs same first (j, made) is =
+    (length (xs t) + j, λ h. made (same ∙ h) ∙ ap (made_by (λ t. take j cs)) (first h) ∙ ap Some (and_then-and_then t (xs t) (take j cs) ∙ ap (λ ds. and_then t ds) (sym (cut h))))
+  where
+    cut : honest ≡ true → take (length (xs t) + j) (xs t ++ ys t) ≡ xs t ++ take j cs
+    cut h = take-append-add (xs t) (ys t) j ∙ ap (λ ds. xs t ++ take j ds) (is t (record { honest = h; told = refl }))
+
+-- the log is the one of the bytes
+pub log_opened : (id : NodeId) (limit : ℕ) (areas : Areas) (found : Result (Option (Area × ℕ)) (Area × ℕ)) (records : List (List ℕ)) (old : State) (log next : Log) (bytes : List ℕ) → stands JournalPair areas ≡ found → IsFound limit records found log → records_in areas ≡ Ok records
+    → state_of id records ≡ Ok old → next ≡ appended log bytes → bytes ≡ epoch_record id records old → IsOpened id limit areas next
+log_opened id limit areas (Ok standing) records old log next bytes stood is found so_far made spelled = record {
+  standing = standing;
+  records = records;
+  old = old;
+  stood = stood;
+  found = found;
+  state = so_far;
+  log = made ∙ ap (λ (l : Log). appended l bytes) is ∙ ap (λ (b : List ℕ). appended (log_at limit records standing) b) spelled;
+}
+log_opened id limit areas (Err spot) records old log next bytes stood is found so_far made spelled = absurd is
 
 -- ---- the state of an epoch more
 

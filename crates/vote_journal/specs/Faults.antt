@@ -1,5 +1,7 @@
 -- Why an operation on a journal is refused, by why one on its log is.
 use Rattle.std.specs.Prelude.{◌≡◌, ◌⊎◌, ◌≤◌, ℕ, IsErrOf, OnOk, Result, Ok, Err}
+use Rattle.mrp_types.specs.declared.id.NodeId.{NodeId}
+use Rattle.disk_model.specs.declared.area.Area.{Area}
 use Rattle.disk_model.specs.Causes.{Rose}
 use Rattle.command_codec.specs.declared.fault.CodecFault.{CodecFault}
 use Rattle.command_codec.specs.declared.fault.CodecFault.TheVariants as fields
@@ -40,8 +42,14 @@ pub record JournalCauses {T : Type 0} (before now : ℕ) (result : Result T Jour
   pub full : (len : ℕ) → IsErrOf result (journals.Full len) → now ≡ before
   pub kept : OnOk result (now ≡ before)
 
+-- the same of an opening
 pub record OpenCauses {T : Type 0} (before now : ℕ) (result : Result T OpenFault) : Type 0 where
   pub later : before ≤ now
   pub disk : IsErrOf result opens.Disk → Rose before now
   pub memory : IsErrOf result opens.Memory → now ≡ before
+  pub damaged : (area : Area) (at : ℕ) → IsErrOf result (opens.Damaged area at) → now ≡ before
+  pub node : (id : NodeId) → IsErrOf result (opens.WrongNode id) → now ≡ before
+  pub spoilt : (at : ℕ) → IsErrOf result (opens.BadRecord at) → now ≡ before
+  pub last : IsErrOf result opens.EpochLimit → now ≡ before
+  pub full : (len : ℕ) → IsErrOf result (opens.Full len) → now ≡ before
   pub kept : OnOk result (now ≡ before)

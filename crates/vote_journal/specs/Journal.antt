@@ -1,11 +1,14 @@
 -- A journal on a disk: the state that its records stand for, and the calls of each operation.
-use Rattle.std.specs.Prelude.{◌≡◌, ◌⊎◌, ℕ, ◌+◌, ◌-◌, ◌<◌, ◌^◌, ◌==◌, if◌then◌else◌, List, [], ◌∷◌, length, Result, Ok, Err}
+use Rattle.std.specs.Prelude.{◌≡◌, ◌⊎◌, ℕ, ◌+◌, ◌-◌, ◌<◌, ◌≤◌, ◌^◌, ◌==◌, if◌then◌else◌, List, [], ◌∷◌, ◌++◌, length, Option, Result, Ok, Err}
 use Rattle.mrp_types.specs.declared.id.NodeId.{NodeId}
 use Rattle.disk_model.specs.declared.area.Area.{Area}
 use Rattle.disk_model.specs.declared.areas.Areas.{Areas}
 use Rattle.disk_model.specs.declared.call.Call.{Call}
+use Rattle.disk_model.specs.Calls.{Told, reads}
+use Rattle.gate_area.specs.declared.pair.Pair.TheVariants.{Journal as JournalPair}
+use Rattle.gate_area.specs.Standing.{stands}
 use Rattle.gate_log.specs.Records.{end_of}
-use Rattle.gate_log.specs.Journal.{Log, Holds, records_in, append_calls, appended, compacted}
+use Rattle.gate_log.specs.Journal.{Log, Holds, records_in, log_at, append_calls, appended, compacted, open_calls}
 use Rattle.gate_log.specs.Moments.{ChecksStay}
 use Rattle.command_codec.specs.declared.fault.CodecFault.{CodecFault}
 use Rattle.vote_state.specs.declared.change.Change.{Change}
@@ -104,9 +107,10 @@ abbrev pub recorded : Journal → List Change → Journal
 recorded j [] = j
 recorded j (c ∷ cs) = record j { log = appended j.log (changes_bytes (c ∷ cs)); state = taken (c ∷ cs) j.state }
 
--- how long the area is with a record of these changes
+-- how long the area is with a record of these changes; a list without changes has none
 abbrev pub recorded_end : Journal → List Change → ℕ
-recorded_end j cs = j.log.end + (5 + length (changes_bytes cs))
+recorded_end j [] = j.log.end
+recorded_end j (c ∷ cs) = j.log.end + (5 + length (changes_bytes (c ∷ cs)))
 
 -- the record of a compaction
 abbrev pub compact_record : Journal → List ℕ
@@ -133,11 +137,11 @@ opened_end id records s = end_of records + (5 + length (epoch_record id records 
 abbrev pub IsWant : OpenFault → Type 0
 IsWant fault = (fault ≡ Disk) ⊎ (fault ≡ Memory)
 
--- the journal has this state, unless there was no room for the record of its epoch
+-- The journal has this state and this limit, and the record of its epoch is within it; or there was no room for that record.
 abbrev pub OpensAs : NodeId → ℕ → List (List ℕ) → Result State OpenFault → Result Journal OpenFault → Type 0
 OpensAs id limit records (Err fault) (Ok j) = ⊥
 OpensAs id limit records (Err fault) (Err f) = (f ≡ fault) ⊎ IsWant f
-OpensAs id limit records (Ok s) (Ok j) = (j.id ≡ id) × (j.state ≡ s)
+OpensAs id limit records (Ok s) (Ok j) = (j.id ≡ id) × (j.state ≡ s) × (j.log.limit ≡ limit) × ((old : State) → state_of id records ≡ Ok old → (j.log.end ≡ opened_end id records old) × (opened_end id records old ≤ limit))
 OpensAs id limit records (Ok s) (Err f) = ((old : State) × (state_of id records ≡ Ok old) × (f ≡ Full (opened_end id records old)) × (limit < opened_end id records old)) ⊎ IsWant f
 
 -- an opening finds the damaged place, or judges the records that stand there
@@ -146,11 +150,36 @@ OpensBy id limit (Err (area, at)) (Ok j) = ⊥
 OpensBy id limit (Err (area, at)) (Err f) = (f ≡ Damaged area at) ⊎ IsWant f
 OpensBy id limit (Ok records) result = OpensAs id limit records (opening_of id records) result
 
+-- the log of an opened journal: that of the area that stood, or of the one that was begun, with the record of the epoch
+pub record IsOpened (id : NodeId) (limit : ℕ) (areas : Areas) (opened : Log) : Type 0 where
+  pub standing : Option (Area × ℕ)
+  pub records : List (List ℕ)
+  pub old : State
+  pub stood : stands JournalPair areas ≡ Ok standing
+  pub found : records_in areas ≡ Ok records
+  pub state : state_of id records ≡ Ok old
+  pub log : opened ≡ appended (log_at limit records standing) (epoch_record id records old)
+
+-- the calls of the record of an epoch, where the records were judged
+abbrev pub epoch_calls : NodeId → Log → List (List ℕ) → Result State OpenFault → List Call
+epoch_calls id log records (Ok s) = append_calls log (epoch_record id records s)
+epoch_calls id log records (Err fault) = []
+
+-- the same where they were found
+abbrev pub judged_calls : NodeId → ℕ → Result (Option (Area × ℕ)) (Area × ℕ) → Result (List (List ℕ)) (Area × ℕ) → List Call
+judged_calls id limit (Ok standing) (Ok records) = epoch_calls id (log_at limit records standing) records (state_of id records)
+judged_calls id limit (Ok standing) (Err spot) = []
+judged_calls id limit (Err spot) found = []
+
+-- the calls of an opening: those of its log, and those of the record of the epoch
+abbrev pub opening_calls : NodeId → ℕ → Told → List Call
+opening_calls id limit t = open_calls t ++ judged_calls id limit (stands JournalPair (reads t)) (records_in (reads t))
+
 -- the journal with that record as the only one, in the other area
 abbrev pub compacted_journal : Journal → Journal
 compacted_journal j = record j { log = compacted j.log (compact_record j) }
 
--- an opening of areas that stand for a state
-abbrev pub OpensAgain : NodeId → ℕ → State → Result Journal OpenFault → Type 0
-OpensAgain id limit s (Ok j) = (j.id ≡ id) × (opened_state s ≡ Ok j.state)
-OpensAgain id limit s (Err f) = ((f ≡ EpochLimit) × (s.epoch ≡ 2 ^ 32 - 1)) ⊎ (((len : ℕ) × (f ≡ Full len) × (limit < len)) ⊎ IsWant f)
+-- an opening of areas whose records stand for a state
+abbrev pub OpensAgain : NodeId → ℕ → List (List ℕ) → State → Result Journal OpenFault → Type 0
+OpensAgain id limit records s (Ok j) = (j.id ≡ id) × (opened_state s ≡ Ok j.state) × (j.log.limit ≡ limit) × (j.log.end ≡ opened_end id records s) × (opened_end id records s ≤ limit)
+OpensAgain id limit records s (Err f) = ((f ≡ EpochLimit) × (s.epoch ≡ 2 ^ 32 - 1)) ⊎ (((f ≡ Full (opened_end id records s)) × (limit < opened_end id records s)) ⊎ IsWant f)

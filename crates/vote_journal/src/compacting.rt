@@ -1,14 +1,14 @@
 //! One record in place of all.
 
-ghost use Rattle.std.specs.Prelude.{◌≡◌, ◌+◌, ◌-◌, ◌<◌, ◌^◌, ℕ, List, [], ◌∷◌, length, OnOk, IfOk, IsErrOf};
+ghost use Rattle.std.specs.Prelude.{◌≡◌, ◌⊎◌, ◌+◌, ◌-◌, ◌<◌, ◌^◌, ℕ, List, [], ◌∷◌, length, OnOk, IfOk, IsErrOf, MatchResult};
 ghost use Rattle.disk_model.specs.Calls.{Told, Tells, Makes, MakesFirst, LeavesOnly, IsSettled, reads};
 ghost use Rattle.disk_model.specs.declared.area.Area.{Area as SomeArea};
 ghost use Rattle.gate_log.specs.Journal.{Holds, IsLogOf, compact_calls, compacted};
 ghost use Rattle.gate_log.specs.Moments.{LogCauses, OldOrNew};
-ghost use Rattle.gate_log.specs.declared.fault.LogFault.TheVariants.{Full as LogFull, Damaged as LogDamaged};
+ghost use Rattle.gate_log.specs.declared.fault.LogFault.TheVariants.{Full as LogFull, Memory as LogMemory, Damaged as LogDamaged};
 ghost use Rattle.vote_journal.specs.Faults.{JournalCauses};
 ghost use Rattle.vote_journal.specs.Journal.{Stands, BeforeOrAfter, compact_record, compacted_journal};
-ghost use Rattle.vote_journal.specs.declared.fault.JournalFault.TheVariants.{Full};
+ghost use Rattle.vote_journal.specs.declared.fault.JournalFault.TheVariants.{Full, Memory};
 
 use crate::{JournalFault, VoteJournal, write_first};
 use disk_model::Disk;
@@ -27,6 +27,8 @@ impl VoteJournal {
         ensures some { MakesFirst (D.honest disk.old) (D.told disk.old) (D.told disk.new) (compact_calls self.log (compact_record self)) }
         ensures full { (len : ℕ) → IsErrOf result (Full len) → (len ≡ 22 + length (compact_record self)) × (self.log.limit < len) }
         ensures idle { self.log.limit < 22 + length (compact_record self) → disk.new ≡ disk.old }
+        ensures longer { self.log.limit < 22 + length (compact_record self) →
+            MatchResult result (λ _. ⊥) (λ fault. (fault ≡ Full (22 + length (compact_record self))) ⊎ (fault ≡ Memory)) }
         ensures journal { IfOk result (λ journal. journal ≡ compacted_journal self) }
         ensures moments { (t : Told) → Tells (D.told disk.old) (D.honest disk.old) t →
             LeavesOnly t (D.told disk.new) (BeforeOrAfter self.id self.state self.state (reads t)) }
@@ -66,7 +68,7 @@ fn replace_records<D: Disk>(
     ensures calls { OnOk result (Makes (D.honest disk.old) (D.told disk.old) (D.told disk.new) (compact_calls log bytes.now)) }
     ensures some { MakesFirst (D.honest disk.old) (D.told disk.old) (D.told disk.new) (compact_calls log bytes.now) }
     ensures full { (len : ℕ) → IsErrOf result (LogFull len) → (len ≡ 22 + length bytes.now) × (log.limit < len) }
-    ensures idle { log.limit < 22 + length bytes.now → disk.new ≡ disk.old }
+    ensures longer { log.limit < 22 + length bytes.now → (disk.new ≡ disk.old) × MatchResult result (λ _. ⊥) (λ fault. (fault ≡ LogFull (22 + length bytes.now)) ⊎ (fault ≡ LogMemory)) }
     ensures undamaged { (area : SomeArea) (at : ℕ) → IsErrOf result (LogDamaged area at) → ⊥ }
     ensures log { IfOk result (λ next. next ≡ compacted log bytes.now) }
     ensures moments { (t : Told) (records : List (List ℕ)) → Tells (D.told disk.old) (D.honest disk.old) t → Holds log records (reads t) →

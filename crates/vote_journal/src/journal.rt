@@ -12,7 +12,7 @@ ghost use Rattle.vote_state.specs.Valid.{IsChange};
 ghost use Rattle.vote_journal.specs.Epochs.{epochs_rise};
 ghost use Rattle.vote_journal.specs.Faults.{JournalCauses};
 ghost use Rattle.vote_journal.specs.Journal.{Stands, BeforeOrAfter, record_calls, recorded, recorded_end};
-ghost use Rattle.vote_journal.specs.declared.fault.JournalFault.TheVariants.{Full};
+ghost use Rattle.vote_journal.specs.declared.fault.JournalFault.TheVariants.{Full, Memory};
 
 use crate::{JournalFault, write_changes};
 use disk_model::Disk;
@@ -83,9 +83,11 @@ impl VoteJournal {
         requires epochs { IsTrue (epochs_rise self.state.epoch changes.now) }
         ensures calls { OnOk result (Makes (D.honest disk.old) (D.told disk.old) (D.told disk.new) (λ t. record_calls self changes.now)) }
         ensures some { MakesFirst (D.honest disk.old) (D.told disk.old) (D.told disk.new) (λ t. record_calls self changes.now) }
-        ensures none { changes.now ≡ [] → OnOk result (disk.new ≡ disk.old) }
+        ensures none { changes.now ≡ [] → (disk.new ≡ disk.old) × MatchResult result (λ journal. journal ≡ self) (λ _. ⊥) }
         ensures full { (len : ℕ) → IsErrOf result (Full len) → (len ≡ recorded_end self changes.now) × (self.log.limit < len) }
         ensures idle { self.log.limit < recorded_end self changes.now → disk.new ≡ disk.old }
+        ensures longer { 0 < length changes.now → self.log.limit < recorded_end self changes.now →
+            MatchResult result (λ _. ⊥) (λ fault. (fault ≡ Full (recorded_end self changes.now)) ⊎ (fault ≡ Memory)) }
         ensures journal { IfOk result (λ journal. journal ≡ recorded self changes.now) }
         ensures moments { (t : Told) → Tells (D.told disk.old) (D.honest disk.old) t →
             LeavesOnly t (D.told disk.new) (BeforeOrAfter self.id self.state (taken changes.now self.state) (reads t)) }

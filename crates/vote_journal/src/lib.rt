@@ -1,7 +1,9 @@
-//! The records of an acceptor's journal as bytes: each list of changes has one spelling.
+//! An acceptor's journal on a disk: opened with an epoch more, records of changes added, compacted to one record. At
+//! each moment a crash leaves the state before or after.
 //!
-//! `specs/Spelling.antt` has the spellings as functions of the value, `specs/Grammar.antt` the
-//! reading, field by field from the left.
+//! `specs/Journal.antt` has the state that records stand for and the calls of each operation. Each list of changes has
+//! one spelling as a record: `specs/Spelling.antt` has the spellings as functions of the value, `specs/Grammar.antt`
+//! the reading, field by field from the left.
 #![tactic(auto)]
 
 mod compacting;

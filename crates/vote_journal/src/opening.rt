@@ -1,13 +1,13 @@
 //! The opening of a journal.
 
 ghost use Rattle.std.specs.Prelude.{◌≡◌, ◌⊎◌, ◌≤◌, ◌<◌, ◌+◌, ◌^◌, ◌==◌, ◌++◌, ℕ, List, [], ◌∷◌, length, OnOk, IfOk, IsErrOf, IsTrue, MatchResult, Ok, Err};
-ghost use Rattle.disk_model.specs.Calls.{Told, Tells, LeavesOnly, IsSettled, reads};
+ghost use Rattle.disk_model.specs.Calls.{Told, Tells, Makes, MakesFirst, LeavesOnly, IsSettled, reads};
 ghost use Rattle.gate_log.specs.Records.{room, end_of};
 ghost use Rattle.gate_log.specs.Journal.{Log, Holds, records_in};
 ghost use Rattle.gate_log.specs.Moments.{SinceSync};
 ghost use Rattle.vote_state.specs.State.{State, taken};
 ghost use Rattle.vote_journal.specs.Faults.{Says, OpenCauses};
-ghost use Rattle.vote_journal.specs.Journal.{Stands, OpensBy, OpenLeaves, opened_state, record_of, epoch_record};
+ghost use Rattle.vote_journal.specs.Journal.{Stands, OpensBy, OpenLeaves, IsOpened, opening_calls, opened_state, record_of, epoch_record};
 ghost use Rattle.vote_journal.specs.declared.fault.OpenFault.TheVariants.{Memory as NoMemory, Disk};
 ghost use Rattle.vote_state.specs.Valid.{IsChange};
 ghost use Rattle.std.specs.List.{AllByRecursion};
@@ -23,8 +23,9 @@ use vote_state::{Changes, Durable};
 
 impl VoteJournal {
     /// Opens a node's journal, or begins one, and records that its epoch rose by one. `limit` is the greatest length of
-    /// an area in bytes. `BadRecord` and `WrongNode` are judged record by record from the first on, then `EpochLimit`,
-    /// then `Full` of the epoch's record.
+    /// an area in bytes, and stays the journal's. `BadRecord` and `WrongNode` are judged record by record from the first
+    /// on, then `EpochLimit`, then `Full` of the epoch's record. No call is made after those of the log's opening but
+    /// those that write that record.
     pub fn open<D: Disk>(
         alloc: Global,
         disk: &mut D,
@@ -33,7 +34,11 @@ impl VoteJournal {
     ) -> Result<VoteJournal, OpenFault>
         requires least { 17 ≤ limit }
         requires most { limit < 2 ^ 32 }
+        ensures room { IfOk result (λ journal. (journal.log.limit ≡ limit) × (journal.log.end ≤ limit)) }
         ensures finds { (t : Told) → Tells (D.told disk.old) (D.honest disk.old) t → OpensBy id limit (records_in (reads t)) result }
+        ensures log { (t : Told) → Tells (D.told disk.old) (D.honest disk.old) t → IfOk result (λ journal. IsOpened id limit (reads t) journal.log) }
+        ensures calls { OnOk result (Makes (D.honest disk.old) (D.told disk.old) (D.told disk.new) (opening_calls id limit)) }
+        ensures some { MakesFirst (D.honest disk.old) (D.told disk.old) (D.told disk.new) (opening_calls id limit) }
         ensures moments { (t : Told) → Tells (D.told disk.old) (D.honest disk.old) t → SinceSync t (D.told disk.new) (OpenLeaves id (reads t)) }
         ensures stands { (u : Told) → Tells (D.told disk.new) (D.honest disk.new) u → IfOk result (λ journal. Stands journal (reads u)) }
         ensures done { (u : Told) → Tells (D.told disk.new) (D.honest disk.new) u → OnOk result (IsSettled u) }

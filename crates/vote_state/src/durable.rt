@@ -62,8 +62,8 @@ impl Durable {
         self.rings.get(usize::from(ring.0))
     }
 
-    /// The greatest ballot that the ring's acceptor promised; 0 for none. Of a ring that isn't
-    /// below 16 nothing is kept.
+    /// The ballot of the last promise that the ring's acceptor made; 0 for none. Of a ring that
+    /// isn't below 16 nothing is kept.
     pub fn promise(&self, ring: RingId) -> Ballot
         ensures promise { result ≡ promise_at self.now ring }
         ensures formed { IsState self.now }

@@ -89,5 +89,12 @@ fn half_of_all_instances_are_one_run(rt: HostRuntime) -> Result<(), Fail> {
     assert_eq!(rt; map.run_at(7), Some((0, half)));
     assert_eq!(rt; map.run_at(half), Some((half, half + 1)));
     assert_eq!(rt; map.next_gap(0), half + 1);
+    assert!(rt; matches!(map.get(half - 1), Some(Value::Skip)));
+    assert!(rt; matches!(map.get(half), Some(Value::Batch(_))));
+    assert!(rt; map.get(half + 1).is_none());
+    map.cut_below(half);
+    assert!(rt; map.get(half - 1).is_none());
+    assert_eq!(rt; map.next_after(7), Some(half));
+    assert_eq!(rt; map.next_after(half + 1), None);
     Ok(())
 }

@@ -4,8 +4,8 @@ ghost use Rattle.std.specs.List.{AllByRecursion};
 ghost use Rattle.vote_state.specs.Valid.{IsChange};
 ghost use Rattle.vote_journal.specs.Epochs.{epochs_rise};
 
-use crate::{OpenFault, VoteJournal};
-use disk_model::{Area, Disk, SimDisk};
+use crate::{JournalFault, OpenFault, VoteJournal};
+use disk_model::{Area, Disk, Image, SimDisk};
 use mrp_types::{Memory, NodeId, RingId, Value, Voted};
 use std::alloc::Global;
 use std::test::*;
@@ -171,5 +171,256 @@ fn a_compaction_stays(rt: HostRuntime) -> Result<(), Fail> {
     let mut disk = SimDisk::empty(rt.alloc());
     compact(rt.alloc(), &mut disk)?;
     assert!(rt; stands(rt.alloc(), &mut disk, &want)?);
+    Ok(())
+}
+
+// What a journal answers: the place after its first record and its end, or why it was refused.
+#[derive(Clone, Copy, Debug, PartialEq)]
+enum Outcome {
+    Ends(u64, u64),
+    NotOpened(OpenFault),
+    NotWritten(JournalFault),
+    Other,
+}
+
+impl From<OpenFault> for Outcome {
+    fn from(fault: OpenFault) -> Self {
+        Outcome::NotOpened(fault)
+    }
+}
+
+impl From<JournalFault> for Outcome {
+    fn from(fault: JournalFault) -> Self {
+        Outcome::NotWritten(fault)
+    }
+}
+
+// A journal with room for so many bytes of records gets a record of these changes, and one in place of all if
+// `compacts`.
+fn change<D: Disk>(
+    alloc: Global,
+    disk: &mut D,
+    room: u16,
+    changes: &Changes,
+    compacts: bool,
+) -> Result<Outcome, Outcome>
+    requires changes { AllByRecursion IsChange changes.now }
+    requires epochs { (before : ℕ) → IsTrue (epochs_rise before changes.now) }
+{
+    let journal = VoteJournal::open(alloc, disk, NodeId(0), 17 + u64::from(room))?;
+    let journal = journal.record(disk, changes)?;
+    if !compacts {
+        return Ok(Outcome::Ends(journal.base_end(), journal.end()));
+    }
+    if journal.generation() == u64::MAX {
+        return Err(Outcome::Other);
+    }
+    let journal = journal.compact(disk)?;
+    Ok(Outcome::Ends(journal.base_end(), journal.end()))
+}
+
+fn either(answer: Result<Outcome, Outcome>) -> Outcome {
+    match answer {
+        Ok(outcome) => outcome,
+        Err(outcome) => outcome,
+    }
+}
+
+// Of a promise.
+fn promised<D: Disk>(alloc: Global, disk: &mut D, room: u16, compacts: bool) -> Outcome {
+    let Ok(changes) = a_promise(alloc) else {
+        return Outcome::Other;
+    };
+    either(change(alloc, disk, room, &changes, compacts))
+}
+
+// Of no change.
+fn unchanged<D: Disk>(alloc: Global, disk: &mut D, room: u16) -> Outcome {
+    either(change(alloc, disk, room, &Changes::new(alloc), false))
+}
+
+// A vote for ten instances and one within them.
+fn two_votes(alloc: Global) -> Result<Changes, Memory>
+    ensures changes { IfOk result (λ changes. AllByRecursion IsChange changes) }
+    ensures epochs { IfOk result (λ changes. (before : ℕ) → IsTrue (epochs_rise before changes)) }
+{
+    let mut changes = Changes::new(alloc);
+    changes.vote(
+        RING,
+        Voted {
+            lo: 0,
+            hi: 10,
+            ballot: 3,
+            value: Value::Skip,
+        },
+    )?;
+    changes.vote(
+        RING,
+        Voted {
+            lo: 4,
+            hi: 6,
+            ballot: 4,
+            value: Value::Skip,
+        },
+    )?;
+    Ok(changes)
+}
+
+// Of these votes, which a compaction keeps as three.
+fn voted<D: Disk>(alloc: Global, disk: &mut D, room: u16, compacts: bool) -> Outcome {
+    let Ok(changes) = two_votes(alloc) else {
+        return Outcome::Other;
+    };
+    either(change(alloc, disk, room, &changes, compacts))
+}
+
+// A first record of 7 bytes ends at 17 + 5 + 7, so 11 bytes are too few and 12 are room for it.
+#[test]
+fn an_opening_without_room(rt: HostRuntime) -> Result<(), Fail> {
+    let full = Outcome::NotOpened(OpenFault::Full(29));
+    for (room, want) in [(0, full), (11, full), (12, Outcome::Ends(29, 29))] {
+        let mut disk = SimDisk::empty(rt.alloc());
+        assert_eq!(rt; unchanged(rt.alloc(), &mut disk, room), want, "{room}");
+    }
+    Ok(())
+}
+
+// A record of a promise has 10 bytes, and one of the state 17.
+#[test]
+fn a_promise_without_room(rt: HostRuntime) -> Result<(), Fail> {
+    for (room, compacts, want) in [
+        (26, false, Outcome::NotWritten(JournalFault::Full(44))),
+        (27, false, Outcome::Ends(29, 44)),
+        (27, true, Outcome::Ends(39, 39)),
+    ] {
+        let mut disk = SimDisk::empty(rt.alloc());
+        let outcome = promised(rt.alloc(), &mut disk, room, compacts);
+        assert_eq!(rt; outcome, want, "{room} {compacts}");
+    }
+    Ok(())
+}
+
+// A record of the two votes has 58 bytes, and one of the state with three of them 94.
+#[test]
+fn votes_without_room(rt: HostRuntime) -> Result<(), Fail> {
+    let full = Outcome::NotWritten(JournalFault::Full(116));
+    for (room, compacts, want) in [
+        (74, false, Outcome::NotWritten(JournalFault::Full(92))),
+        (75, false, Outcome::Ends(29, 92)),
+        (75, true, full),
+        (98, true, full),
+        (99, true, Outcome::Ends(116, 116)),
+    ] {
+        let mut disk = SimDisk::empty(rt.alloc());
+        let outcome = voted(rt.alloc(), &mut disk, room, compacts);
+        assert_eq!(rt; outcome, want, "{room} {compacts}");
+    }
+    Ok(())
+}
+
+// The opening of an empty disk makes 13 calls that write, cut or sync.
+#[test]
+fn no_changes_make_no_call(rt: HostRuntime) -> Result<(), Fail> {
+    let mut disk = SimDisk::empty(rt.alloc());
+    disk.fuse(13);
+    let outcome = unchanged(rt.alloc(), &mut disk, 12);
+    assert_eq!(rt; outcome, Outcome::Ends(29, 29));
+    assert_eq!(rt; disk.bytes(Area::Journal0), OPENED.as_slice());
+    assert!(rt; !disk.stopped());
+    Ok(())
+}
+
+// Whether a promise and a compaction answer this on a disk, and what is synced is then this epoch and promise.
+fn leaves(
+    alloc: Global,
+    mut disk: SimDisk,
+    want: Outcome,
+    epoch: u32,
+    promise: u64,
+) -> Result<bool, Fail> {
+    if promised(alloc, &mut disk, 1000, true) != want {
+        return Ok(false);
+    }
+    let mut left = disk.crash(Image::Old)?;
+    let found = reopen(alloc, &mut left)?;
+    Ok(found.epoch == epoch && found.promise == promise)
+}
+
+// Whether so is left where the call after so many fails, once and for good.
+fn stops_at(
+    alloc: Global,
+    calls: u32,
+    want: Outcome,
+    epoch: u32,
+    promise: u64,
+) -> Result<bool, Fail> {
+    let mut once = SimDisk::empty(alloc);
+    once.fail(calls);
+    if !leaves(alloc, once, want, epoch, promise)? {
+        return Ok(false);
+    }
+    let mut for_good = SimDisk::empty(alloc);
+    for_good.fuse(calls);
+    leaves(alloc, for_good, want, epoch, promise)
+}
+
+// An opening of an empty disk makes 13 calls, a record 4, and a compaction 8.
+#[test]
+fn stops_of_an_opening(rt: HostRuntime) -> Result<(), Fail> {
+    let want = Outcome::NotOpened(OpenFault::Disk);
+    for calls in 0..13 {
+        assert!(rt; stops_at(rt.alloc(), calls, want, 1, 0)?, "{calls}");
+    }
+    Ok(())
+}
+
+#[test]
+fn stops_of_a_record(rt: HostRuntime) -> Result<(), Fail> {
+    let want = Outcome::NotWritten(JournalFault::Disk);
+    for calls in 13..17 {
+        assert!(rt; stops_at(rt.alloc(), calls, want, 2, 0)?, "{calls}");
+    }
+    Ok(())
+}
+
+#[test]
+fn stops_of_a_compaction(rt: HostRuntime) -> Result<(), Fail> {
+    let want = Outcome::NotWritten(JournalFault::Disk);
+    for calls in 17..25 {
+        assert!(rt; stops_at(rt.alloc(), calls, want, 2, 4)?, "{calls}");
+    }
+    let all = Outcome::Ends(39, 39);
+    assert!(rt; stops_at(rt.alloc(), 25, all, 2, 4)?);
+    Ok(())
+}
+
+// A disk whose first record is followed by these bytes.
+fn with_behind(alloc: Global, bytes: &[u8]) -> Result<SimDisk, Fail> {
+    let mut all = OPENED[..28].to_vec(alloc)?;
+    all.extend_from_slice(bytes)?;
+    Ok(disk_of(alloc, all, Vec::new(alloc)))
+}
+
+// A record of one byte 0 behind the first one, which is another node's.
+#[test]
+fn another_node_before_a_bad_record(rt: HostRuntime) -> Result<(), Fail> {
+    for (node, want) in [
+        (1, OpenFault::WrongNode(NodeId(0))),
+        (0, OpenFault::BadRecord(28)),
+    ] {
+        let mut disk = with_behind(rt.alloc(), &[1, 0, 0, 0, 1, 0, 0])?;
+        let fault = refusal(rt.alloc(), &mut disk, NodeId(node));
+        assert_eq!(rt; fault, Some(want), "{node}");
+    }
+    Ok(())
+}
+
+// A record of the last epoch behind the first one, and no room.
+#[test]
+fn the_last_epoch_before_no_room(rt: HostRuntime) -> Result<(), Fail> {
+    let record = [1, 0, 0, 0, 5, 1, 255, 255, 255, 255, 0];
+    let mut disk = with_behind(rt.alloc(), &record)?;
+    let outcome = unchanged(rt.alloc(), &mut disk, 0);
+    assert_eq!(rt; outcome, Outcome::NotOpened(OpenFault::EpochLimit));
     Ok(())
 }

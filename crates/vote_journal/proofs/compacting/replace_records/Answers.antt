@@ -1,10 +1,11 @@
-use Rattle.std.proofs.Common.{◌≡◌, OnOk, inl, ℕ, ◌+◌, ◌<◌, List, [], ◌∷◌, length, IfOk, refl, subst}
+use Rattle.std.proofs.Common.{◌≡◌, OnOk, inl, ℕ, ◌+◌, ◌<◌, List, [], ◌∷◌, length, IfOk, refl, sym, subst}
 use Rattle.disk_model.specs.Calls.{Makes, reads}
 use Rattle.gate_log.specs.Moments.{OldOrNew}
 use Rattle.gate_log.specs.Journal.{Holds, compact_calls}
+use Rattle.gate_log.specs.declared.fault.LogFault.TheVariants.{Full}
 use Rattle.gate_log.proofs.Moves.{records_are}
 use Rattle.gate_log.proofs.Phases.{stays_leaves}
-use Rattle.vote_journal.proofs.Writing.{body_is}
+use Rattle.vote_journal.proofs.Writing.{body_is, only_error}
 use Rattle.vote_journal.proofs.compacting.replace_records.Goals as goal
 
 pub returns-in_err-push-clause-moments : goal.returns-in_err-push-clause-moments
@@ -28,3 +29,10 @@ pub returns-clause-calls : goal.returns-clause-calls
 returns-clause-calls g c =
     let same = body_is c.push.new.self c.new-body.result c.args.bytes.now c.in_ok-push.ensures.ok c.new-body.ensures in
     subst (λ (b : List ℕ). OnOk c.compact.result (Makes (g.D.Disk.honest c.args.disk.now) (g.D.Disk.told c.args.disk.now) (g.D.Disk.told c.compact.new.disk) (compact_calls c.args.log b))) same c.compact.ensures.calls
+
+pub returns-clause-longer : goal.returns-clause-longer
+returns-clause-longer g c longer =
+    let same = body_is c.push.new.self c.new-body.result c.args.bytes.now c.in_ok-push.ensures.ok c.new-body.ensures in
+    let over = subst (λ (b : List ℕ). c.args.log.limit < 22 + length b) (sym same) longer in
+    let is = (c.compact.ensures.full (22 + length c.args.bytes.now)).1 (subst (λ (b : List ℕ). (22 + length c.args.bytes.now ≡ 22 + length b) × (c.args.log.limit < 22 + length c.args.bytes.now)) (sym same) (refl, longer)) in
+    (c.compact.ensures.idle over, only_error c.compact.result (Full (22 + length c.args.bytes.now)) is)

@@ -1,10 +1,14 @@
-use Rattle.std.proofs.Common.{◌≡◌, subst, inr, [], ◌∷◌}
+use Rattle.std.proofs.Common.{◌≡◌, ◌∙◌, ap, subst, inr, ℕ, List, [], ◌∷◌, IfOk, OnOk, Some}
 use Rattle.disk_model.specs.declared.areas.Areas.{Areas}
 use Rattle.disk_model.specs.declared.call.Call.TheVariants.{Sync}
 use Rattle.disk_model.specs.Calls.{LeavesOnly, and_then, reads}
-use Rattle.disk_model.proofs.Reading.{reads_synced}
-use Rattle.gate_log.specs.Journal.{Holds, IsLogOf, find_calls, records_in}
+use Rattle.disk_model.specs.Causes.{change_passed, read_passed}
+use Rattle.disk_model.proofs.Reading.{area_bytes-and_then, reads_synced}
+use Rattle.gate_area.specs.declared.pair.Pair.TheVariants.{Journal}
+use Rattle.gate_area.specs.Standing.{stands}
+use Rattle.gate_log.specs.Journal.{Holds, IsFound, IsLogOf, find_calls, records_in}
 use Rattle.gate_log.specs.Moments.{Finds, SameRecords, refused_as}
+use Rattle.gate_log.specs.Reading.{pieces_of, reads_passed}
 use Rattle.gate_log.proofs.Answering.{errs, finds_refused, if_ok, on_ok}
 use Rattle.gate_log.proofs.Opens.{open_makes, open_some, sync_settles, tells_before}
 use Rattle.gate_log.proofs.Phases.{synced_tells}
@@ -23,6 +27,17 @@ pub returns-clause-finds : goal.returns-clause-finds
 returns-clause-finds g c t tells =
     let mid = synced_tells (g.D.Disk.told c.args.disk.now) (g.D.Disk.told c.sync.new.self) (g.D.Disk.honest c.args.disk.now) (g.D.Disk.honest c.sync.new.self) t c.in_ok-sync.ensures.told c.sync.ensures.honest tells in
     subst (λ (areas : Areas). Finds (λ opened. opened.1.items) (records_in areas) c.find.result) (reads_synced t) (c.find.ensures.finds (and_then t (Sync ∷ [])) mid)
+
+pub returns-clause-log : goal.returns-clause-log
+returns-clause-log g c t tells =
+    let mid = synced_tells (g.D.Disk.told c.args.disk.now) (g.D.Disk.told c.sync.new.self) (g.D.Disk.honest c.args.disk.now) (g.D.Disk.honest c.sync.new.self) t c.in_ok-sync.ensures.told c.sync.ensures.honest tells in
+    subst (λ (areas : Areas). IfOk c.find.result (λ opened. IsFound c.args.limit opened.1.items (stands Journal areas) opened.0)) (reads_synced t) (c.find.ensures.log (and_then t (Sync ∷ [])) mid)
+
+pub returns-clause-reads : goal.returns-clause-reads
+returns-clause-reads g c t p area generation tells plan stood =
+    let mid = synced_tells (g.D.Disk.told c.args.disk.now) (g.D.Disk.told c.sync.new.self) (g.D.Disk.honest c.args.disk.now) (g.D.Disk.honest c.sync.new.self) t c.in_ok-sync.ensures.told c.sync.ensures.honest tells in
+    subst (λ (file : List ℕ). OnOk c.find.result (g.D.Disk.plan c.find.new.disk ≡ Some (reads_passed (pieces_of file) (read_passed (read_passed (change_passed p)))))) (area_bytes-and_then area t (Sync ∷ []))
+    (c.find.ensures.reads (and_then t (Sync ∷ [])) (change_passed p) area generation mid (c.in_ok-sync.ensures.plan p plan).plan (ap (stands Journal) (reads_synced t) ∙ stood))
 
 pub returns-clause-calls : goal.returns-clause-calls
 returns-clause-calls g c =

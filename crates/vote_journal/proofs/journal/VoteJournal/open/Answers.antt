@@ -1,6 +1,8 @@
-use Rattle.std.proofs.Common.{◌≡◌, ◌∙◌, ◌⊎◌, ℕ, ◌+◌, ◌-◌, ◌^◌, ◌<◌, ◌==◌, Bool, true, false, if◌then◌else◌, List, ◌∷◌, [], ◌++◌, length, Option, Some, Ok, Err, Result, IsErrAnd, refl, sym, ap, subst}
+use Rattle.std.proofs.Common.{arith, ◌≡◌, ◌∙◌, ◌⊎◌, ℕ, ◌+◌, ◌-◌, ◌^◌, ◌<◌, ◌==◌, Bool, true, false, if◌then◌else◌, List, ◌∷◌, [], ◌++◌, length, Option, Some, Ok, Err, Result, IsErrAnd, refl, sym, ap, subst}
 use Rattle.disk_model.specs.Calls.{Told, Tells, and_then, made_by, Makes, LeavesOnly, reads}
 use Rattle.disk_model.specs.declared.area.Area.{Area}
+use Rattle.gate_area.specs.declared.pair.Pair.TheVariants.{Journal as JournalPair}
+use Rattle.gate_area.specs.Standing.{stands}
 use Rattle.gate_log.specs.declared.fault.LogFault.{LogFault}
 use Rattle.gate_log.specs.Records.{end_of}
 use Rattle.gate_log.specs.Journal.{Log, Holds, records_in, open_calls, append_calls}
@@ -11,8 +13,8 @@ use Rattle.vote_state.specs.State.{State, taken}
 use Rattle.vote_journal.specs.declared.fault.OpenFault.{OpenFault}
 use Rattle.vote_journal.specs.declared.fault.OpenFault.TheVariants.{Memory, EpochLimit}
 use Rattle.vote_journal.specs.Faults.{opened_as}
-use Rattle.vote_journal.specs.Journal.{OpensBy, OpenLeaves, state_of, opened_state, next_epoch, epoch_record}
-use Rattle.vote_journal.proofs.Openings.{no_log, refused, no_state, no_epoch, no_room, since_as, same_opens, epoch_leaves, opened_stands}
+use Rattle.vote_journal.specs.Journal.{OpensBy, OpenLeaves, state_of, opened_state, next_epoch, epoch_record, judged_calls}
+use Rattle.vote_journal.proofs.Openings.{with_room, within, judged_are, all_made, first_made, then_made, log_opened, no_log, refused, no_state, no_epoch, no_room, since_as, same_opens, epoch_leaves, opened_stands}
 use Rattle.vote_journal.proofs.journal.VoteJournal.open.Goals as goal
 
 -- the answer is the fault that was passed on
@@ -123,3 +125,83 @@ returns-clause-stands g c u now_tells =
     (subst (λ (rs : List (List ℕ)). state_of c.args.id rs ≡ Ok c.in_ok-state.state) c.deref.ensures.value c.in_ok-state.ensures.state) c.in_ok-bytes.ensures.fits
     (made_is c.in_ok-state.state c.in_ok-bytes.durable c.in_ok-bytes.ensures.state)
     (c.in_ok-log-2.ensures.holds before.0 u records before.1 now_tells (c.in_ok-log.ensures.holds before.0 before.1))
+
+-- what the record of the epoch is, by what was found
+pub returns-clause-finds : goal.returns-clause-finds
+returns-clause-finds g c t tells =
+    let so_far = subst (λ (rs : List (List ℕ)). state_of c.args.id rs ≡ Ok c.in_ok-state.state) c.deref.ensures.value c.in_ok-state.ensures.state in
+    let u = and_then t (open_calls t) in
+    let told = c.in_ok-log.ensures.calls tells.honest ∙ ap (made_by open_calls) tells.told in
+    let holds = c.in_ok-log.ensures.holds u (record { honest = c.open.ensures.honest ∙ tells.honest; told = told }) in
+    let spelled = c.bytes-2.ensures ∙ (c.in_ok-bytes.ensures.bytes ∙ ap (λ (rs : List (List ℕ)). epoch_record c.args.id rs c.in_ok-state.state) c.deref-2.ensures.value) in
+    let log = c.in_ok-log-2.ensures.log in
+    let end : c.in_ok-log-2.log.end ≡ c.in_ok-log.log.end + (5 + length c.bytes-2.result.now) = ap (λ (l : Log). l.end) log in
+    let limit : c.in_ok-log-2.log.limit ≡ c.args.limit = ap (λ (l : Log). l.limit) log ∙ c.in_ok-log.ensures.limit in
+    with_room (λ opened. opened.1.items) (c.in_ok-log.log, c.in_ok-log.records) c.args.id c.args.limit (records_in (reads t)) c.in_ok-state.state
+    (record { id = c.args.id; log = c.in_ok-log-2.log; state = c.in_ok-bytes.durable }) (c.in_ok-log.ensures.finds t tells) so_far c.in_ok-bytes.ensures.state refl limit
+    (end ∙ ap (λ n. n + (5 + length c.bytes-2.result.now)) holds.end ∙ ap (λ (b : List ℕ). end_of c.in_ok-log.records.items + (5 + length b)) spelled)
+    (omega (arith, end, c.in_ok-log.ensures.limit, within c.in_ok-log.log.limit (c.in_ok-log.log.end + (5 + length c.bytes-2.result.now)) c.in_ok-log-2.ensures.longer))
+
+pub returns-clause-room : goal.returns-clause-room
+returns-clause-room g c =
+    let log = c.in_ok-log-2.ensures.log in
+    let end : c.in_ok-log-2.log.end ≡ c.in_ok-log.log.end + (5 + length c.bytes-2.result.now) = ap (λ (l : Log). l.end) log in (
+      ap (λ (l : Log). l.limit) log ∙ c.in_ok-log.ensures.limit,
+      omega (arith, end, c.in_ok-log.ensures.limit, within c.in_ok-log.log.limit (c.in_ok-log.log.end + (5 + length c.bytes-2.result.now)) c.in_ok-log-2.ensures.longer),
+    )
+
+pub returns-clause-log : goal.returns-clause-log
+returns-clause-log g c t tells =
+    log_opened c.args.id c.args.limit (reads t) (stands JournalPair (reads t)) c.in_ok-log.records.items c.in_ok-state.state c.in_ok-log.log c.in_ok-log-2.log c.bytes-2.result.now refl (c.in_ok-log.ensures.log t tells)
+    (listed_are (λ opened. opened.1.items) (c.in_ok-log.log, c.in_ok-log.records) (records_in (reads t)) (c.in_ok-log.ensures.finds t tells))
+    (subst (λ (rs : List (List ℕ)). state_of c.args.id rs ≡ Ok c.in_ok-state.state) c.deref.ensures.value c.in_ok-state.ensures.state)
+    c.in_ok-log-2.ensures.log
+    (c.bytes-2.ensures ∙ (c.in_ok-bytes.ensures.bytes ∙ ap (λ (rs : List (List ℕ)). epoch_record c.args.id rs c.in_ok-state.state) c.deref-2.ensures.value))
+
+pub returns-clause-calls : goal.returns-clause-calls
+returns-clause-calls g c =
+    all_made (g.D.Disk.honest c.args.disk.now) (g.D.Disk.honest c.open.new.disk) (g.D.Disk.told c.args.disk.now) (g.D.Disk.told c.open.new.disk) (g.D.Disk.told c.write_record.new.disk)
+    open_calls (λ t. judged_calls c.args.id c.args.limit (stands JournalPair (reads t)) (records_in (reads t))) (append_calls c.in_ok-log.log c.bytes-2.result.now)
+    c.open.ensures.honest c.in_ok-log.ensures.calls c.in_ok-log-2.ensures.calls
+    (λ t tells.
+    judged_are c.args.id c.args.limit (stands JournalPair (reads t)) (records_in (reads t)) c.in_ok-log.records.items c.in_ok-state.state c.in_ok-log.log c.bytes-2.result.now (c.in_ok-log.ensures.log t tells)
+    (listed_are (λ opened. opened.1.items) (c.in_ok-log.log, c.in_ok-log.records) (records_in (reads t)) (c.in_ok-log.ensures.finds t tells))
+    (subst (λ (rs : List (List ℕ)). state_of c.args.id rs ≡ Ok c.in_ok-state.state) c.deref.ensures.value c.in_ok-state.ensures.state)
+    (c.bytes-2.ensures ∙ (c.in_ok-bytes.ensures.bytes ∙ ap (λ (rs : List (List ℕ)). epoch_record c.args.id rs c.in_ok-state.state) c.deref-2.ensures.value)))
+
+pub returns-clause-some : goal.returns-clause-some
+returns-clause-some g c =
+    then_made (g.D.Disk.honest c.args.disk.now) (g.D.Disk.honest c.open.new.disk) (g.D.Disk.told c.args.disk.now) (g.D.Disk.told c.open.new.disk) (g.D.Disk.told c.write_record.new.disk)
+    open_calls (λ t. judged_calls c.args.id c.args.limit (stands JournalPair (reads t)) (records_in (reads t))) (append_calls c.in_ok-log.log c.bytes-2.result.now)
+    c.open.ensures.honest c.in_ok-log.ensures.calls c.write_record.ensures.some
+    (λ t tells.
+    judged_are c.args.id c.args.limit (stands JournalPair (reads t)) (records_in (reads t)) c.in_ok-log.records.items c.in_ok-state.state c.in_ok-log.log c.bytes-2.result.now (c.in_ok-log.ensures.log t tells)
+    (listed_are (λ opened. opened.1.items) (c.in_ok-log.log, c.in_ok-log.records) (records_in (reads t)) (c.in_ok-log.ensures.finds t tells))
+    (subst (λ (rs : List (List ℕ)). state_of c.args.id rs ≡ Ok c.in_ok-state.state) c.deref.ensures.value c.in_ok-state.ensures.state)
+    (c.bytes-2.ensures ∙ (c.in_ok-bytes.ensures.bytes ∙ ap (λ (rs : List (List ℕ)). epoch_record c.args.id rs c.in_ok-state.state) c.deref-2.ensures.value)))
+
+pub returns-in_err-log-2-clause-some : goal.returns-in_err-log-2-clause-some
+returns-in_err-log-2-clause-some g c =
+    then_made (g.D.Disk.honest c.args.disk.now) (g.D.Disk.honest c.open.new.disk) (g.D.Disk.told c.args.disk.now) (g.D.Disk.told c.open.new.disk) (g.D.Disk.told c.write_record.new.disk)
+    open_calls (λ t. judged_calls c.args.id c.args.limit (stands JournalPair (reads t)) (records_in (reads t))) (append_calls c.in_ok-log.log c.bytes-2.result.now)
+    c.open.ensures.honest c.in_ok-log.ensures.calls c.write_record.ensures.some
+    (λ t tells.
+    judged_are c.args.id c.args.limit (stands JournalPair (reads t)) (records_in (reads t)) c.in_ok-log.records.items c.in_ok-state.state c.in_ok-log.log c.bytes-2.result.now (c.in_ok-log.ensures.log t tells)
+    (listed_are (λ opened. opened.1.items) (c.in_ok-log.log, c.in_ok-log.records) (records_in (reads t)) (c.in_ok-log.ensures.finds t tells))
+    (subst (λ (rs : List (List ℕ)). state_of c.args.id rs ≡ Ok c.in_ok-state.state) c.deref.ensures.value c.in_ok-state.ensures.state)
+    (c.bytes-2.ensures ∙ (c.in_ok-bytes.ensures.bytes ∙ ap (λ (rs : List (List ℕ)). epoch_record c.args.id rs c.in_ok-state.state) c.deref-2.ensures.value)))
+
+pub returns-in_err-log-clause-some : goal.returns-in_err-log-clause-some
+returns-in_err-log-clause-some g c =
+    first_made (g.D.Disk.honest c.args.disk.now) (g.D.Disk.told c.args.disk.now) (g.D.Disk.told c.open.new.disk)
+    open_calls (λ t. judged_calls c.args.id c.args.limit (stands JournalPair (reads t)) (records_in (reads t))) c.open.ensures.some
+
+pub returns-in_err-state-clause-some : goal.returns-in_err-state-clause-some
+returns-in_err-state-clause-some g c =
+    first_made (g.D.Disk.honest c.args.disk.now) (g.D.Disk.told c.args.disk.now) (g.D.Disk.told c.open.new.disk)
+    open_calls (λ t. judged_calls c.args.id c.args.limit (stands JournalPair (reads t)) (records_in (reads t))) c.open.ensures.some
+
+pub returns-in_err-bytes-clause-some : goal.returns-in_err-bytes-clause-some
+returns-in_err-bytes-clause-some g c =
+    first_made (g.D.Disk.honest c.args.disk.now) (g.D.Disk.told c.args.disk.now) (g.D.Disk.told c.open.new.disk)
+    open_calls (λ t. judged_calls c.args.id c.args.limit (stands JournalPair (reads t)) (records_in (reads t))) c.open.ensures.some
