@@ -22,7 +22,7 @@ partition n = record { 0 = n }
 abbrev pub log : ℕ → LogId
 log n = record { 0 = n }
 
--- the last of some, as many as there are in another list
+-- the last of some, as many as there are in another list: for a law of the last lines alone, as the script `row` writes it
 abbrev pub last_of : {A : Type 0} → List A → List A → List A
 last_of xs ys = drop (length ys - length xs) ys
 
