@@ -12,10 +12,10 @@ use Rattle.gate_area.specs.declared.pair.Pair.TheVariants.{Check}
 use Rattle.gate_area.specs.Standing.{stands}
 use Rattle.gate_log.specs.Journal.{renew_calls}
 use Rattle.command_codec.specs.declared.fault.CodecFault.{CodecFault}
-use Rattle.command_codec.specs.declared.fault.CodecFault.TheVariants.{Short, BadKind, BadField, TooLong, Left, Memory}
 use Rattle.command_codec.specs.Reader.{Reader, number_at, bytes_at, follow, both, shown}
 use Rattle.frames.specs.Spelling.{tuple_bytes}
 use Rattle.frames.specs.Grammar.{tuple_at, all_of, part_of as part_size}
+use Rattle.plain_model.specs.StateBytes.{fault_position}
 use Rattle.checkpoint.specs.Spelling.{checkpoint_body}
 
 -- a checkpoint: where a replica stood in each of its rings, and the bytes of its state there
@@ -42,18 +42,10 @@ checkpoint_of x = record { tuple = x.0; state = x.1.1 }
 unfoldable pub checkpoint_at : Reader Checkpoint
 checkpoint_at = shown checkpoint_of (both tuple_at (follow (number_at w64) bytes_at))
 
--- where the first field at fault begins; a byte left over is at fault where it stands
-abbrev pub place_of : CodecFault → ℕ
-place_of (Short at) = at
-place_of (BadKind at) = at
-place_of (BadField at) = at
-place_of (TooLong at) = at
-place_of (Left at) = at
-place_of Memory = 0
-
+-- at fault where the first field at fault begins; a byte left over is at fault where it stands
 abbrev pub placed : Result Checkpoint CodecFault → Result Checkpoint ℕ
 placed (Ok newest) = Ok newest
-placed (Err fault) = Err (place_of fault)
+placed (Err fault) = Err (fault_position fault)
 
 -- the checkpoint in an area that stands, from byte 16 on, or the damaged place of it
 abbrev pub read_area : List ℕ → Result Checkpoint ℕ
@@ -97,14 +89,6 @@ saved checks tuple state = record {
 
 -- ---- questions
 
-abbrev pub tuple_of_newest : Option Checkpoint → Option (List (RingId × ℕ))
-tuple_of_newest None = None
-tuple_of_newest (Some newest) = Some newest.tuple
-
--- the tuple of the newest checkpoint, where there is one
-abbrev pub newest_tuple : Checks → Option (List (RingId × ℕ))
-newest_tuple checks = tuple_of_newest checks.newest
-
 -- the positions at which the tuple and the state of the checkpoint in an area begin
 abbrev pub places_in : Option Area → Option Checkpoint → Option (Area × ℕ × ℕ)
 places_in None newest = None
@@ -115,15 +99,15 @@ places_in (Some area) (Some newest) = Some (area, 16, 24 + length (tuple_bytes n
 abbrev pub place : Checks → Option (Area × ℕ × ℕ)
 place checks = places_in checks.area checks.newest
 
--- whether two tuples have the same instances, ring by ring; the rings are taken to be the same
+-- whether two tuples are one: the same rings, and the same instance of each
 abbrev pub is_same_tuple : List (RingId × ℕ) → List (RingId × ℕ) → Bool
 is_same_tuple [] [] = true
 is_same_tuple [] (y ∷ ys) = false
 is_same_tuple (x ∷ xs) [] = false
-is_same_tuple (x ∷ xs) (y ∷ ys) = (x.1 == y.1) && is_same_tuple xs ys
+is_same_tuple (x ∷ xs) (y ∷ ys) = (x.0.0 == y.0.0) && ((x.1 == y.1) && is_same_tuple xs ys)
 
--- Whether the second tuple is after the first one. Both are of the same rings, and each has the places up to one in the
--- one order, so the second is after the first where it is greater at a ring.
+-- Whether the second tuple is after the first one. Both are valid ones of the same rings, so each has the places up to one in
+-- the one order, and the second is after the first exactly where it is greater at a ring.
 abbrev pub is_after : List (RingId × ℕ) → List (RingId × ℕ) → Bool
 is_after [] ys = false
 is_after (x ∷ xs) [] = false

@@ -18,6 +18,10 @@ early = tuple_of 4 3
 abbrev pub later : List (RingId × ℕ)
 later = tuple_of 4 5
 
+-- the instances of the earlier one at other rings
+abbrev pub of_other_rings : List (RingId × ℕ)
+of_other_rings = (record { 0 = 0 }, 4) ∷ (record { 0 = 1 }, 3) ∷ []
+
 -- an open gate, the magic, version 1 and a generation
 abbrev pub head : ℕ → List ℕ
 head generation = 1 ∷ 0x4d ∷ 0x52 ∷ 0x43 ∷ 0 ∷ 0 ∷ 0 ∷ 1 ∷ 0 ∷ 0 ∷ 0 ∷ 0 ∷ 0 ∷ 0 ∷ 0 ∷ generation ∷ []

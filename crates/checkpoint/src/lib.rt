@@ -3,4 +3,5 @@
 //! Definitions and laws alone: each function has an empty body, and its contract is the law.
 #![tactic(auto)]
 
+pub mod laws;
 pub mod rows;

@@ -4,7 +4,7 @@ ghost use Rattle.std.specs.Prelude.{◌≡◌, [], ◌∷◌, Ok, Err, Some, Non
 ghost use Rattle.disk_model.specs.Calls.{reads};
 ghost use Rattle.disk_model.specs.declared.area.Area.TheVariants.{Check2, Check3};
 ghost use Rattle.checkpoint.specs.Checks.{checks_in, no_checks, saved, place, part_of, Part, Gone, Unknown};
-ghost use Rattle.checkpoint.specs.Rows.{with_checks, early, later, state, saved_once, once, twice, first_area, second_area, bad_ring, state_missing, one_over};
+ghost use Rattle.checkpoint.specs.Rows.{with_checks, early, later, of_other_rings, state, saved_once, once, twice, first_area, second_area, bad_ring, state_missing, one_over};
 
 /// Two saves on a fresh pair: the first area first, then the second with the next generation.
 pub fn saves()
@@ -32,12 +32,13 @@ pub fn damaged()
     ensures left { checks_in (with_checks one_over []) ≡ Err (Check2, 45) }
 {}
 
-/// Parts of the newest checkpoint, of an older one and of an unknown one.
+/// Parts of the newest checkpoint, of an older one, of an unknown one, and of a tuple of other rings.
 pub fn parts()
     ensures all { part_of saved_once early 0 ≡ Part 2 state }
     ensures rest { part_of saved_once early 1 ≡ Part 2 (0xbb ∷ []) }
     ensures none { part_of saved_once early 2 ≡ Unknown }
     ensures gone { part_of (saved saved_once later []) early 0 ≡ Gone later }
     ensures later { part_of saved_once later 0 ≡ Unknown }
+    ensures others { part_of saved_once of_other_rings 0 ≡ Unknown }
     ensures fresh { part_of no_checks early 0 ≡ Unknown }
 {}

@@ -1,6 +1,9 @@
 pub mod Fronts
 pub mod TupleOrder
+pub mod Pages
 pub mod SizeLaws
+pub mod TupleChain
+pub mod Below
 pub mod TupleAt
 pub mod Known
 pub mod FoldLogs

@@ -1,5 +1,5 @@
 -- How many bytes are written.
-use Rattle.std.proofs.Common.{arith, ◌≡◌, ◌≤◌, ℕ, ◌+◌, ◌-◌, nat_le, Bool, true, false, if◌then◌else◌, List, [], ◌∷◌, ◌++◌, length, refl, ap, ◌∙◌, length-append}
+use Rattle.std.proofs.Common.{arith, ◌≡◌, ◌≤◌, ℕ, ◌+◌, ◌-◌, List, [], ◌∷◌, ◌++◌, length, refl, ◌∙◌, length-append}
 use Rattle.std.specs.List.{flat_map, sum_by}
 use Rattle.std.proofs.lemmas.List.Concat.{length-flat_map}
 use Rattle.std.proofs.lemmas.List.Sums.{sum_by-cons}
@@ -7,7 +7,9 @@ use Rattle.command_codec.specs.declared.reply.TableEntry.{TableEntry}
 use Rattle.command_codec.specs.Fields.{u16_bytes, u64_bytes, string16}
 use Rattle.command_codec.specs.Replies.{table_entry_bytes, reply_bytes}
 use Rattle.command_codec.proofs.Sizes.{length-u16_bytes, length-u64_bytes, length-string16}
-use Rattle.plain_model.specs.Replicas.{LogState, log_size, entry_size, services_size, front_within, page_of, IsLongestFront, NoneFits}
+use Rattle.plain_model.specs.Replicas.{LogState, log_size, entry_size, services_size, page_of}
+use Rattle.plain_model.specs.Pages.{front_within}
+use Rattle.plain_model.proofs.Pages.{front-longest}
 use Rattle.plain_model.specs.StateBytes.{log_bytes, logs_bytes, table_bytes}
 
 sum-same : {X : Type 0} (f g : X → ℕ) → ((x : X) → f x ≡ g x) → (xs : List X) → sum_by f xs ≡ sum_by g xs
@@ -45,32 +47,12 @@ services-written logs table = omega (arith, length-append (logs_bytes logs) (tab
 
 -- ---- pages
 
-pub front-longest : (room : ℕ) (all : List TableEntry) → IsLongestFront room all (front_within room all)
-front-longest room [] = record { rest = []; whole = refl; fits = omega arith; more = tt }
-front-longest room (entry ∷ all) = by (nat_le (entry_size entry) room) refl (front-longest (room - entry_size entry) all)
-  where
-    by : (t : Bool) → nat_le (entry_size entry) room ≡ t → IsLongestFront (room - entry_size entry) all (front_within (room - entry_size entry) all) →
-        IsLongestFront room (entry ∷ all) (if t then entry ∷ front_within (room - entry_size entry) all else [])
-    by false e later = record { rest = entry ∷ all; whole = refl; fits = omega arith; more = grind arith }
-    by true e later = record {
-      rest = later.rest;
-      whole = ap (λ (es : List TableEntry). entry ∷ es) later.whole;
-      fits = let room_for : entry_size entry ≤ room = grind arith in omega (arith, later.fits, room_for, sum_by-cons entry_size entry (front_within (room - entry_size entry) all));
-      more = more_by later.rest later.more;
-    }
-      where
-        more_by : (rest : List TableEntry) → NoneFits (room - entry_size entry) (front_within (room - entry_size entry) all) rest →
-            NoneFits room (entry ∷ front_within (room - entry_size entry) all) rest
-        more_by [] none = tt
-        more_by (next ∷ rest) none = let room_for : entry_size entry ≤ room = grind arith in
-            omega (arith, none, room_for, sum_by-cons entry_size entry (front_within (room - entry_size entry) all))
-
 pub page-short : (all : List TableEntry) → length (reply_bytes (page_of all)) ≤ 16384
 page-short all =
-    let front : List TableEntry = front_within (16384 - 4) all in
+    let front : List TableEntry = front_within entry_size (16384 - 4) all in
     omega (
       arith,
-      (front-longest (16384 - 4) all).fits,
+      (front-longest entry_size (16384 - 4) all).fits,
       length-append (u16_bytes (length front)) (flat_map table_entry_bytes front),
       length-u16_bytes (length front),
       length-entries front,

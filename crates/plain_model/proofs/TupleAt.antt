@@ -76,7 +76,7 @@ count-before m p place some = by (p.ring.0 == place.ring.0) refl
     by true e = same_ring m p place (same_number p.ring.0 place.ring.0 e)
     by false e = other_ring m p place some (other_number p.ring.0 place.ring.0 e)
 
-by_number : (a b : RingId) → a.0 ≡ b.0 → a ≡ b
+pub by_number : (a b : RingId) → a.0 ≡ b.0 → a ≡ b
 by_number a b same = let made : ℕ → RingId = λ r. record { 0 = r } in ap made same
 
 -- what is below the tuple of a place comes before it

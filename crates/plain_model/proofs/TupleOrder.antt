@@ -53,7 +53,7 @@ before_not m a b c first not = elim ((in_one_order m).total b c) [
 
 -- ---- the next place
 
-false_not_true : (t : Bool) → t ≡ false → IsTrue t → ⊥
+pub false_not_true : (t : Bool) → t ≡ false → IsTrue t → ⊥
 false_not_true t e h = true≢false (sym h ∙ e)
 
 earlier_by : (m : ℕ → ℕ) (p : Place) (a b : RingId × ℕ) (t : Bool) → place_lt m (place_of b) (place_of a) ≡ t →
@@ -101,7 +101,7 @@ not_below_by pair (x ∷ pairs) p (inr there) ring le = inr (not_below_by pair p
 
 -- ---- validity
 
-split_and : (a b : Bool) → (a && b) ≡ true → IsTrue a × IsTrue b
+pub split_and : (a b : Bool) → (a && b) ≡ true → IsTrue a × IsTrue b
 split_and true b h = (refl, h)
 split_and false b h = absurd (true≢false (sym h))
 
@@ -122,7 +122,7 @@ pub valid_is_front : (m : ℕ → ℕ) (tuple : List (RingId × ℕ)) → is_val
 valid_is_front m tuple valid p q below not =
     before_not m p (place_of (next_place m tuple)) q (lasts_before m (place_of (next_place m tuple)) p tuple valid below) (none_before_next m tuple q not)
 
-both_true : (a b : Bool) → IsTrue a → IsTrue b → (a && b) ≡ true
+pub both_true : (a b : Bool) → IsTrue a → IsTrue b → (a && b) ≡ true
 both_true true b ha hb = hb
 both_true false b ha hb = ha
 

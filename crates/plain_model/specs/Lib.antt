@@ -1,6 +1,7 @@
 pub mod Lines
 pub mod Faithful
 pub mod Tuples
+pub mod Pages
 pub mod Replicas
 pub mod StateBytes
 pub mod Fold

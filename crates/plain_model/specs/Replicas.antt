@@ -1,6 +1,6 @@
 -- What a replica of a partition keeps: for each client its greatest number and the reply to it, the partition's logs, and its
 -- table. The rules of the two services stand here, and what a replica makes of an entry.
-use Rattle.std.specs.Prelude.{◌≡◌, ◌≤◌, ◌<◌, ℕ, suc, ◌+◌, ◌-◌, ◌^◌, ◌==◌, nat_lt, nat_le, max, Bool, false, not, ◌||◌, if◌then◌else◌, List, [], ◌∷◌, ◌++◌, length, map, filter, filter_map, drop, slice_get, sum_by, bytes_eq, Option, Some, None, Result, Ok, Err}
+use Rattle.std.specs.Prelude.{ℕ, suc, ◌+◌, ◌-◌, ◌^◌, ◌==◌, nat_lt, nat_le, max, Bool, false, not, ◌||◌, if◌then◌else◌, List, [], ◌∷◌, ◌++◌, length, map, filter, filter_map, drop, slice_get, sum_by, bytes_eq, Option, Some, None, Result, Ok, Err}
 use Rattle.mrp_types.specs.declared.id.ClientId.{ClientId}
 use Rattle.mrp_types.specs.declared.id.LogId.{LogId}
 use Rattle.mrp_types.specs.declared.value.Entry.{Entry}
@@ -16,6 +16,7 @@ use Rattle.command_codec.specs.Replies.{reply_bytes}
 use Rattle.mrp_config.specs.declared.tables.PartitionTable.{PartitionTable}
 use Rattle.mrp_config.specs.Config.{has_log}
 use Rattle.mrp_config.specs.Routing.{is_before, is_within, is_concerned}
+use Rattle.plain_model.specs.Pages.{front_within}
 
 -- a client's greatest number, and the bytes of the reply to it
 pub record Session : Type 0 where
@@ -104,29 +105,12 @@ with_entry key value entries = put_in (record { key = key; value = value }) (wit
 abbrev pub entry_size : TableEntry → ℕ
 entry_size entry = 4 + (length entry.key + length entry.value)
 
--- the longest front of the entries that takes at most so many bytes
-abbrev pub front_within : ℕ → List TableEntry → List TableEntry
-front_within room [] = []
-front_within room (entry ∷ entries) = if nat_le (entry_size entry) room then entry ∷ front_within (room - entry_size entry) entries else []
-
--- with the front the first of the rest would take too much room
-abbrev pub NoneFits : ℕ → List TableEntry → List TableEntry → Type 0
-NoneFits room front [] = Unit {0}
-NoneFits room front (next ∷ rest) = room < sum_by entry_size front + entry_size next
-
--- the longest front that takes at most so many bytes, in plain words
-pub record IsLongestFront (room : ℕ) (all front : List TableEntry) : Type 0 where
-  pub rest : List TableEntry
-  pub whole : all ≡ front ++ rest
-  pub fits : sum_by entry_size front ≤ room
-  pub more : NoneFits room front rest
-
 -- a page of these entries: the longest front whose reply has at most 16,384 bytes, and whether entries were left out
 abbrev pub marked : List TableEntry → List TableEntry → Reply
 marked all page = Entries (nat_lt (length page) (length all)) page
 
 abbrev pub page_of : List TableEntry → Reply
-page_of all = marked all (front_within (16384 - 4) all)
+page_of all = marked all (front_within entry_size (16384 - 4) all)
 
 -- the entries whose keys are in the range, in order
 abbrev pub scanned : List ℕ → List ℕ → List TableEntry → List TableEntry

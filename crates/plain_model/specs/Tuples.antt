@@ -49,7 +49,7 @@ abbrev pub is_at_or_after : List (RingId × ℕ) → List (RingId × ℕ) → Bo
 is_at_or_after (x ∷ xs) (y ∷ ys) = nat_le y.1 x.1 && is_at_or_after xs ys
 is_at_or_after xs ys = true
 
--- the first tuple is before the second
+-- the first tuple is before the second: the second is at or after it, and it isn't the same
 abbrev pub tuple_before : List (RingId × ℕ) → List (RingId × ℕ) → Bool
 tuple_before a b = is_at_or_after b a && not (is_at_or_after a b)
 
@@ -110,11 +110,6 @@ entry_at ring (x ∷ pairs) = if x.0.0 == ring.0 then Some x.1 else entry_at rin
 abbrev pub instances : List (RingId × ℕ) → List ℕ
 instances tuple = map (λ (x : RingId × ℕ). x.1) tuple
 
--- a tuple of these rings with these entries
-abbrev pub tuple_with : List RingId → List ℕ → List (RingId × ℕ)
-tuple_with (ring ∷ rings) (n ∷ ns) = (ring, n) ∷ tuple_with rings ns
-tuple_with rings ns = []
-
 -- how many places of a ring come before a place: of a ring before its own those of its round too, of one after it none of them
 abbrev pub count_before : (ℕ → ℕ) → RingId → Place → ℕ
 count_before m ring place =
@@ -124,7 +119,3 @@ count_before m ring place =
 -- the tuple below which are the places of these rings that come before a place
 abbrev pub tuple_at : (ℕ → ℕ) → List RingId → Place → List (RingId × ℕ)
 tuple_at m rings place = map (λ (ring : RingId). (ring, count_before m ring place)) rings
-
--- the tuple below which are these, and the place itself
-abbrev pub tuple_after : (ℕ → ℕ) → List RingId → Place → List (RingId × ℕ)
-tuple_after m rings place = moved_past (place.ring, place.inst) (tuple_at m rings place)

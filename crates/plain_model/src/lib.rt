@@ -3,8 +3,8 @@
 //! `specs/Faithful.antt` has the rules of lines by their printed names, `specs/Lines.antt` what they read of the
 //! lines before. `specs/Fold.antt` says what a partition's entries mean, over plain lists: which count, what the logs
 //! and the table hold, what is replied, the state, and a client's answer. `specs/Replicas.antt` has the same as a
-//! replica keeps it, entry by entry, `specs/StateBytes.antt` its written form, and `specs/Tuples.antt` how far a
-//! partition has come. `rows` has worked examples.
+//! replica keeps it, entry by entry, `specs/StateBytes.antt` its written form, `specs/Pages.antt` what a page is, and
+//! `specs/Tuples.antt` how far a partition has come. `rows` has worked examples.
 #![tactic(auto)]
 
 mod fold_laws;
@@ -20,7 +20,10 @@ ghost use Rattle.transcript.specs.declared.line.Line.{Line};
 ghost use Rattle.plain_model.specs.Lines.{book};
 ghost use Rattle.plain_model.specs.Faithful.{Order, IsFaithful};
 
-pub use fold_laws::{replicas_keep_what_the_lists_say, replicas_reply_what_the_lists_say};
+pub use fold_laws::{
+    replicas_keep_what_the_lists_say, replicas_reply_what_the_lists_say,
+    states_are_what_replicas_keep,
+};
 pub use known_laws::entries_below_stay;
 pub use rows::{
     a_larger_state, a_next_place, a_page, a_replica, a_state, a_state_read, a_state_written,
@@ -32,7 +35,8 @@ pub use size_laws::{pages_are_longest_fronts, pages_are_short, sizes_are_written
 pub use tuple_laws::{
     moves_keep_tuples_valid, past_adds_the_next_place, past_leaves_the_others,
     the_next_place_is_an_entry, the_next_place_is_first, tuples_of_places_are_valid,
-    valid_tuples_are_fronts, what_comes_before_is_below, what_is_below_comes_before,
+    valid_tuples_are_fronts, valid_tuples_stand_in_one_order, what_comes_before_is_below,
+    what_is_below_comes_before,
 };
 
 /// Every front of a faithful list of lines is faithful.

@@ -7,8 +7,8 @@ ghost use Rattle.command_codec.specs.Replies.{has_more};
 ghost use Rattle.command_codec.specs.Grammar.{key_of};
 ghost use Rattle.plain_model.specs.Replicas.{empty_replica, page_of};
 ghost use Rattle.plain_model.specs.StateBytes.{state_bytes, state_of, read_state, whole_state};
-ghost use Rattle.plain_model.specs.Fold.{replica_after, state_below, answer_of, entries_below};
-ghost use Rattle.plain_model.specs.Tuples.{first_tuple, next_place, past_many, is_tuple_of, tuple_before, tuple_at};
+ghost use Rattle.plain_model.specs.Fold.{replica_after, answer_of, entries_below};
+ghost use Rattle.plain_model.specs.Tuples.{first_tuple, next_place, past_many, is_tuple_of, tuple_at};
 ghost use Rattle.plain_model.specs.Rows.{ring, place, twos, ones, alone, lower, upper, both_parts, client, hi, hi_reply, hi_state, hi_replica, after, mixed, mixed_replica, mixed_replies, places_and_bytes, replies_in, asked, asked_by, scan_all, a_book, insert_a, full_replica, after_full, eight, keys_in};
 
 /// A value appended to an empty log: its reply.

@@ -3,7 +3,8 @@
 ghost use Rattle.std.specs.Prelude.{◌≡◌, ◌≤◌, ◌++◌, ℕ, List, length};
 ghost use Rattle.command_codec.specs.declared.reply.TableEntry.{TableEntry};
 ghost use Rattle.command_codec.specs.Replies.{reply_bytes};
-ghost use Rattle.plain_model.specs.Replicas.{LogState, services_size, page_of, front_within, IsLongestFront};
+ghost use Rattle.plain_model.specs.Replicas.{LogState, services_size, entry_size, page_of};
+ghost use Rattle.plain_model.specs.Pages.{front_within, IsLongestFront};
 ghost use Rattle.plain_model.specs.StateBytes.{logs_bytes, table_bytes};
 
 /// The size of the services is how many bytes their two sections have in the written state.
@@ -13,7 +14,7 @@ pub fn sizes_are_written_bytes()
 
 /// The entries of a page are the longest front that has room.
 pub fn pages_are_longest_fronts()
-    ensures { (room : ℕ) (all : List TableEntry) → IsLongestFront room all (front_within room all) }
+    ensures { (room : ℕ) (all : List TableEntry) → IsLongestFront entry_size room all (front_within entry_size room all) }
 {}
 
 /// A page's reply has at most 16,384 bytes.

@@ -5,7 +5,7 @@ ghost use Rattle.mrp_types.specs.declared.id.RingId.{RingId};
 ghost use Rattle.mrp_types.specs.declared.place.Place.{Place};
 ghost use Rattle.mrp_types.specs.Places.{place_lt};
 ghost use Rattle.mrp_config.specs.Config.{has_ring};
-ghost use Rattle.plain_model.specs.Tuples.{place_of, next_place, past, past_many, first_tuple, tuple_at, is_valid_tuple, IsOneOf, IsBelow, IsNotBelow, IsFront};
+ghost use Rattle.plain_model.specs.Tuples.{place_of, next_place, past, past_many, first_tuple, tuple_at, is_at_or_after, tuple_before, is_valid_tuple, has_rings, is_tuple_of, IsOneOf, IsBelow, IsNotBelow, IsFront};
 
 /// The next place is where a ring of the tuple goes on.
 pub fn the_next_place_is_an_entry()
@@ -55,4 +55,17 @@ pub fn what_comes_before_is_below()
 /// The tuple of a place is valid.
 pub fn tuples_of_places_are_valid()
     ensures { (m : ℕ → ℕ) (rings : List RingId) (place : Place) → ((r : ℕ) → 0 < m r) → is_valid_tuple m (tuple_at m rings place) ≡ true }
+{}
+
+/// Of two valid tuples of the same rings one is at or after the other. To be at or after goes on from one to the next, and two that
+/// are each at or after the other are one: so one is before the other, or they are one.
+pub fn valid_tuples_stand_in_one_order()
+    ensures total { (m : ℕ → ℕ) (rings : List RingId) (a b : List (RingId × ℕ)) → is_tuple_of m rings a ≡ true → is_tuple_of m rings b ≡ true →
+        (is_at_or_after a b ≡ true) ⊎ (is_at_or_after b a ≡ true) }
+    ensures chain { (rings : List RingId) (a b c : List (RingId × ℕ)) → has_rings rings a ≡ true → has_rings rings b ≡ true → has_rings rings c ≡ true →
+        is_at_or_after a b ≡ true → is_at_or_after b c ≡ true → is_at_or_after a c ≡ true }
+    ensures same { (rings : List RingId) (a b : List (RingId × ℕ)) → has_rings rings a ≡ true → has_rings rings b ≡ true →
+        is_at_or_after a b ≡ true → is_at_or_after b a ≡ true → a ≡ b }
+    ensures before { (m : ℕ → ℕ) (rings : List RingId) (a b : List (RingId × ℕ)) → is_tuple_of m rings a ≡ true → is_tuple_of m rings b ≡ true →
+        (tuple_before a b ≡ true) ⊎ ((a ≡ b) ⊎ (tuple_before b a ≡ true)) }
 {}

@@ -1,4 +1,5 @@
-pub mod PageLemmas
+pub mod NodeLemmas
+pub mod AnswerLemmas
 pub mod EntryLemmas
 pub mod BallotLemmas
 pub mod CoverLemmas

@@ -34,6 +34,7 @@ Fails test (Some x) = test x ≡ false
 
 record IsFirst {T : Type 0} (test : T → Bool) (from bound : ℕ) (es : List (ℕ × T)) (end : ℕ) : Type 0 where
   within : end ≤ bound
+  after : from ≤ bound → from ≤ end
   before : (i : ℕ) → from ≤ i → i < end → Fails test (value_at i es)
   stops : (end ≡ bound) ⊎ Passes test (value_at end es)
 
@@ -43,6 +44,7 @@ module _ {T : Type 0} (test : T → Bool) (from bound : ℕ) where
       → IsFirst test from bound (e ∷ es) end
   skipped e es end p fails is = record {
     within = is.within;
+    after = is.after;
     before = λ i a b. elim (cases_eq i e.0) [
       | inl same ↦ subst (λ (o : Option T). Fails test o) (sym (value_here e es i same)) (fails (omega arith))
       | inr ne ↦ subst (λ (o : Option T). Fails test o) (sym (value_later e es i ne)) (is.before i a b)
@@ -58,7 +60,7 @@ module _ {T : Type 0} (test : T → Bool) (from bound : ℕ) where
 
   is_first : (k : ℕ) (es : List (ℕ × T)) → IsIncreasingFrom k es → IsFirst test from bound es (first_where test from bound es)
   unfolding first_where
-  is_first k [] p = record { within = omega arith; before = λ i a b. tt; stops = inl refl }
+  is_first k [] p = record { within = omega arith; after = λ h. h; before = λ i a b. tt; stops = inl refl }
   is_first k (e ∷ es) p = go (test e.1) refl (cases_lt e.0 from) (is_first (suc e.0) es p.1)
     where
       go : (b : Bool) → b ≡ test e.1 → (e.0 < from) ⊎ (from ≤ e.0) → IsFirst test from bound es (first_where test from bound es) → IsFirst test from bound (e ∷ es) (first_where test from bound (e ∷ es))
@@ -69,6 +71,7 @@ module _ {T : Type 0} (test : T → Bool) (from bound : ℕ) where
       go true same (inr above) later =
           rw (le-true from e.0 above, sym same) (record {
             within = omega arith;
+            after = λ h. omega arith;
             before = λ i a b.
                 let under : i < e.0 = omega arith in
                 let ne : (i ≡ e.0 → ⊥) = omega arith in
@@ -177,14 +180,14 @@ module _ (ring : Ring) (campaign : Campaign) (held : List (ℕ × Value)) (p : I
       }
 
   -- at the end of what may be covered no Skip is due
-  past_gaps : (b : Bool) → b ≡ leads → (end : ℕ) → end ≡ gaps_to b reported covered → IsDueSkip ring campaign held end → ⊥
+  past_gaps : (b : Bool) → b ≡ leads → (end : ℕ) → gaps_to b reported covered ≤ end → IsDueSkip ring campaign held end → ⊥
   past_gaps false same end at is = let under = (covers ring campaign.covered end).1 is.covered in omega arith
   past_gaps true same end at is = go (cases_lt reported covered)
     where
       go : (reported < covered) ⊎ (covered ≤ reported) → ⊥
       go (inr all) = let under = (covers ring campaign.covered end).1 is.covered in omega arith
       go (inl less) =
-          let here : end ≡ reported = omega arith in
+          let here : reported ≤ end = omega arith in
           let none = none_reported campaign.reports end (omega arith) in
           let closed : (not leads || nat_lt (suc end) reported) ≡ false = rw (sym same, lt-false (suc end) reported (omega arith)) refl in
           none_due (ap (λ (x : Option Cast). due_by x false) (sym none) ∙ ap (due_by (value_at end campaign.reports)) (sym closed) ∙ is.due)
@@ -208,11 +211,31 @@ module _ (ring : Ring) (campaign : Campaign) (held : List (ℕ × Value)) (p : I
           (subst (λ x. Passes is_batch (value_at x campaign.reports)) (sym (at ∙ same)) batch) is.due)
       by_learned (inl same) (inl to) = by_bound (at ∙ same ∙ to) (turned (cases_lt (gaps_to leads reported covered) most))
 
+  -- where a Skip is due at next the run reaches it
+  reaches : IsDueSkip ring campaign held campaign.next → campaign.next ≤ run_end ring campaign held
+  reaches is = go (cases_lt campaign.next (gaps_to leads reported covered))
+    where
+      go : (campaign.next < gaps_to leads reported covered) ⊎ (gaps_to leads reported covered ≤ campaign.next) → campaign.next ≤ run_end ring campaign held
+      go (inl less) = by_held.after (by_reports.after (omega arith))
+      go (inr more) = absurd (past_gaps leads refl campaign.next more is)
+
+  begins : IsDueSkip ring campaign held campaign.next → campaign.next < run_end ring campaign held
+  begins is = go (longest (run_end ring campaign held) refl) (cases_lt campaign.next (run_end ring campaign held)) (reaches is)
+    where
+      go : (run_end ring campaign held ≡ most) ⊎ (IsDueSkip ring campaign held (run_end ring campaign held) → ⊥) →
+          (campaign.next < run_end ring campaign held) ⊎ (run_end ring campaign held ≤ campaign.next) → campaign.next ≤ run_end ring campaign held → campaign.next < run_end ring campaign held
+      go any (inl less) there = less
+      go (inl full) (inr more) there = omega arith
+      go (inr not) (inr more) there =
+          let same : campaign.next ≡ run_end ring campaign held = omega arith in
+          absurd (not (subst (λ (i : ℕ). IsDueSkip ring campaign held i) same is))
+
   pub is_longest_run : IsLongestRun ring campaign held (run_end ring campaign held)
   is_longest_run =
       let first = by_held.within in
       let second = by_reports.within in
       record {
+        begins = begins;
         each = each;
         few = omega arith;
         longest = longest (run_end ring campaign held) refl;

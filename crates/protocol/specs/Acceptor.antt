@@ -1,5 +1,5 @@
 -- The acceptor's table: promises, votes and trims, and the pages that it sends.
-use Rattle.std.specs.Prelude.{ℕ, ◌-◌, ◌==◌, nat_lt, nat_le, not, max, count_ones, if◌then◌else◌, List, [], ◌∷◌, length, drop, Option, Some, None}
+use Rattle.std.specs.Prelude.{ℕ, ◌-◌, ◌==◌, nat_lt, nat_le, not, max, count_ones, if◌then◌else◌, List, [], ◌∷◌, length, Option, Some, None}
 use Rattle.mrp_types.specs.declared.id.NodeId.{NodeId}
 use Rattle.mrp_types.specs.declared.id.TheConstants.{END}
 use Rattle.mrp_types.specs.declared.value.Value.{Value}
@@ -15,10 +15,11 @@ use Rattle.frames.specs.Spelling.{vote_size, decided_size}
 use Rattle.frames.specs.declared.body.Body.{Body}
 use Rattle.frames.specs.declared.body.Body.TheVariants.{Promise, Refuse, Accept, Decide, Chosen, Trimmed}
 use Rattle.frames.specs.declared.sent.Sent.{Sent}
+use Rattle.plain_model.specs.Pages.{front_within, left_out}
 use Rattle.protocol.specs.Parts.{Ring, Role, Idle, Active, Part, Did}
 use Rattle.protocol.specs.Rings.{is_node, owner_of, position_of, majority_of, has_bit, with_bit, next_acceptor, next_member, sends}
 use Rattle.protocol.specs.Doing.{with_kept, with_role, nothing_done, with_change, with_frames, with_learned}
-use Rattle.protocol.specs.Learner.{learned_ranges, without_finished}
+use Rattle.protocol.specs.Learner.{decided_of, learned_ranges, without_finished}
 
 -- ---- durable changes; one that changes nothing isn't made
 
@@ -50,24 +51,15 @@ trims_to ring trim did =
 
 -- ---- pages
 
--- how many bytes the entries of a page may take
+-- how many bytes the entries of a page may take: a page is the longest front of them that takes no more
 abbrev pub page_room : ℕ
 page_room = 24576
 
--- the longest prefix whose entries take at most this many bytes
-unfoldable pub page_of : {T : Type 0} → (T → ℕ) → ℕ → List T → List T
-page_of size room [] = []
-page_of size room (x ∷ xs) = if nat_le (size x) room then x ∷ page_of size (room - size x) xs else []
-
--- what a page leaves out
-abbrev pub left_out : {T : Type 0} → List T → List T → List T
-left_out page all = drop (length page) all
-
 abbrev pub votes_page : List Voted → List Voted
-votes_page votes = page_of vote_size page_room votes
+votes_page votes = front_within vote_size page_room votes
 
 abbrev pub ranges_page : List Decided → List Decided
-ranges_page ranges = page_of decided_size page_room ranges
+ranges_page ranges = front_within decided_size page_room ranges
 
 -- ---- Prepare
 
@@ -115,13 +107,10 @@ first_decide ring link range =
 abbrev pub decides : Ring → Link → Decided → Did → Did
 decides ring link range did = with_learned range (with_frames (first_decide ring link range) did)
 
-abbrev pub range_of : Voted → Decided
-range_of vote = record { lo = vote.lo; hi = vote.hi; value = vote.value }
-
 -- The mask has the own bit: with a majority of bits the range is decided, else the next acceptor is asked.
 abbrev pub goes_on : Ring → Link → ℕ → Voted → Did → Did
 goes_on ring link mask vote did =
-    if nat_le (majority_of ring) (count_ones mask) then decides ring link (range_of vote) did
+    if nat_le (majority_of ring) (count_ones mask) then decides ring link (decided_of vote) did
     else with_frames (sends ring (next_acceptor ring link) (Accept ring.id vote.ballot vote.lo vote.hi mask vote.value)) did
 
 -- by the own position

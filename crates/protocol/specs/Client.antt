@@ -181,7 +181,8 @@ abbrev pub missing_for : Config → Option Asked → List PartitionId
 missing_for config None = []
 missing_for config (Some a) = missing_of (concerned_of a.command config.partitions) a.parts
 
--- the partitions for whose replies the client waits
+-- The partitions for whose replies the client waits, none where it waits for nothing. No rule of the table asks for it: it is what
+-- a program tells that gives up waiting.
 abbrev pub missing : Config → ClientView → List PartitionId
 missing config c = missing_for config c.asked
 

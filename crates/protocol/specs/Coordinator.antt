@@ -19,12 +19,13 @@ use Rattle.ring_link.specs.Silence.{Link, is_silent}
 use Rattle.skip_leveller.specs.Levelling.{Levelling, levelling_after, with_started, with_tick, answer_of}
 use Rattle.frames.specs.declared.body.Body.TheVariants.{Submit, Prepare, Accept}
 use Rattle.frames.specs.declared.sent.Sent.{Sent}
+use Rattle.plain_model.specs.Pages.{front_within}
 use Rattle.protocol.specs.Lines.{BallotLimit, InstanceLimit}
 use Rattle.protocol.specs.Parts.{Ring, Pending, Campaign, Role, Idle, Active, Coordinator, Part, Did}
 use Rattle.protocol.specs.Rings.{is_node, is_own, other_acceptors, position_of, owner_of, majority_of, bit_of, next_acceptor, sends, sends_each}
 use Rattle.protocol.specs.Doing.{with_coordinator, with_campaign, nothing_done, with_part, with_frames, with_line}
 use Rattle.protocol.specs.Learner.{with_met, first_gap, is_same_command}
-use Rattle.protocol.specs.Acceptor.{promises, votes_for, trims_to, page_of, goes_on}
+use Rattle.protocol.specs.Acceptor.{promises, votes_for, trims_to, goes_on}
 
 -- ---- what is covered
 
@@ -52,11 +53,6 @@ is_active coordinator = is_role_active coordinator.role
 abbrev pub role_leads : Ring → Role → Bool
 role_leads ring Idle = false
 role_leads ring (Active campaign) = leads_now ring campaign
-
--- the next instance to be proposed at, 0 while Idle
-abbrev pub next_of : Role → ℕ
-next_of Idle = 0
-next_of (Active campaign) = campaign.next
 
 -- the greater of the own promise and of what was refused
 abbrev pub greatest_seen : Part → ℕ
@@ -204,7 +200,7 @@ entry_size entry = length (entry_bytes entry)
 -- The commands of a fresh batch: the longest prefix of those not yet proposed, the oldest first, whose batch has at most 8,192
 -- bytes; 3 of them are the kind and the count.
 abbrev pub fresh_entries : List Pending → List Entry
-fresh_entries pending = page_of entry_size (8192 - 3) (unproposed pending)
+fresh_entries pending = front_within entry_size (8192 - 3) (unproposed pending)
 
 abbrev pub as_proposed : Pending → Pending
 as_proposed p = record p { proposed = true }

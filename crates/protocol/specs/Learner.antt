@@ -111,6 +111,7 @@ new_part ring kept = record {
 abbrev pub unballoted : Value → Cast
 unballoted value = record { ballot = 0; value = value }
 
+-- a range without its ballot
 abbrev pub decided_of : Voted → Decided
 decided_of range = record { lo = range.lo; hi = range.hi; value = range.value }
 

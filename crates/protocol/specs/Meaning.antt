@@ -1,31 +1,36 @@
 -- What the words of the tables stand for, as plain relations.
-use Rattle.std.specs.Prelude.{◌≡◌, ◌⊎◌, ℕ, suc, ◌+◌, ◌%◌, ◌<◌, ◌≤◌, nat_eq, nat_lt, nat_le, ◌&&◌, if◌then◌else◌, false, List, [], ◌∷◌, ◌++◌, count_by, Option, Some, None, IsSome}
+use Rattle.std.specs.Prelude.{◌≡◌, ◌⊎◌, ℕ, suc, ◌+◌, ◌%◌, ◌<◌, ◌≤◌, ◌==◌, nat_eq, nat_lt, nat_le, ◌&&◌, if◌then◌else◌, true, false, List, [], ◌∷◌, count_by, Option, Some, None, IsSome}
 use Rattle.std.specs.List.{AllByRecursion}
 use Rattle.mrp_types.specs.declared.id.NodeId.{NodeId}
+use Rattle.mrp_types.specs.declared.id.RingId.{RingId}
 use Rattle.mrp_types.specs.declared.value.Value.{Value}
 use Rattle.mrp_types.specs.declared.voted.Decided.{Decided}
 use Rattle.mrp_types.specs.declared.value.Value.TheVariants.{Skip}
 use Rattle.mrp_types.specs.Values.{is_skip}
 use Rattle.range_map.specs.Entries.{value_at, IsIncreasingFrom}
 use Rattle.mrp_config.specs.declared.tables.PartitionTable.{PartitionTable}
+use Rattle.plain_model.specs.Tuples.{is_at_or_after}
 use Rattle.protocol.specs.Parts.{Ring, Campaign, Round}
 use Rattle.protocol.specs.Rings.{acceptor_at, owner_of, majority_of}
-use Rattle.protocol.specs.Acceptor.{left_out}
 use Rattle.protocol.specs.Coordinator.{due_at}
 use Rattle.protocol.specs.Trimming.{answered_of}
 
--- ---- pages
+-- ---- nodes by id
 
--- how many bytes some entries take
-abbrev pub bytes_of : {T : Type 0} → (T → ℕ) → List T → ℕ
-bytes_of size [] = 0
-bytes_of size (x ∷ xs) = size x + bytes_of size xs
+-- how often a node stands in a list
+abbrev pub times : NodeId → List NodeId → ℕ
+times node [] = 0
+times node (other ∷ nodes) = (if other.0 == node.0 then 1 else 0) + times node nodes
 
--- a front of the entries that takes at most this many bytes; the first entry that is left out would not fit
-pub record IsLongestPrefix {T : Type 0} (size : T → ℕ) (room : ℕ) (all page : List T) : Type 0 where
-  pub prefix : page ++ left_out page all ≡ all
-  pub fits : bytes_of size page ≤ room
-  pub longest : (x : T) (xs : List T) → left_out page all ≡ x ∷ xs → room < bytes_of size page + size x
+-- the nodes stand by id, from k on
+abbrev pub AreByIdFrom : ℕ → List NodeId → Type 0
+AreByIdFrom k [] = Unit {0}
+AreByIdFrom k (node ∷ nodes) = (k ≤ node.0) × AreByIdFrom node.0 nodes
+
+-- and none of them stands twice
+abbrev pub AreIncreasingFrom : ℕ → List NodeId → Type 0
+AreIncreasingFrom k [] = Unit {0}
+AreIncreasingFrom k (node ∷ nodes) = (k ≤ node.0) × AreIncreasingFrom (suc node.0) nodes
 
 -- ---- entries at instances
 
@@ -76,8 +81,10 @@ pub record IsDueSkip (ring : Ring) (campaign : Campaign) (held : List (ℕ × Va
   pub unlearned : value_at inst held ≡ None
   pub due : due_at ring campaign inst ≡ Some Skip
 
--- From next on each instance of the run is a due Skip; the one behind it isn't, or the run has 65,536 instances.
+-- From next on each instance of the run is a due Skip, the one at next among them where it is one; the one behind the run isn't,
+-- or the run has 65,536 instances.
 pub record IsLongestRun (ring : Ring) (campaign : Campaign) (held : List (ℕ × Value)) (end : ℕ) : Type 0 where
+  pub begins : IsDueSkip ring campaign held campaign.next → campaign.next < end
   pub each : (i : ℕ) → campaign.next ≤ i → i < end → IsDueSkip ring campaign held i
   pub few : end ≤ campaign.next + 65536
   pub longest : (end ≡ campaign.next + 65536) ⊎ (IsDueSkip ring campaign held end → ⊥)
@@ -133,3 +140,21 @@ pub record IsLeastAnswer (ring : Ring) (round : Round) (inst : ℕ) : Type 0 whe
   pub given : IsGiven inst round.answers
   pub least : AllByRecursion (λ (answer : NodeId × ℕ). inst ≤ answer.1) round.answers
   pub above : round.last < inst
+
+-- ---- the chosen answer
+
+-- one of these answers
+abbrev pub IsAnswer : NodeId × List (RingId × ℕ) → List (NodeId × List (RingId × ℕ)) → Type 0
+IsAnswer answer [] = ⊥
+IsAnswer answer (other ∷ answers) = (answer ≡ other) ⊎ IsAnswer answer answers
+
+-- of two nodes with the same tuple the own one comes first, and of two others the lesser
+abbrev pub IsPreferred : NodeId → NodeId → NodeId → Type 0
+IsPreferred own best other = (best.0 ≡ own.0) ⊎ ((other.0 ≡ own.0 → ⊥) × (best.0 ≤ other.0))
+
+-- One of the answers, whose tuple is at or after that of each of them. Among those with this tuple it is the own node's, where
+-- the own node has it, else that of the least id.
+pub record IsBestAnswer (own : NodeId) (answers : List (NodeId × List (RingId × ℕ))) (best : NodeId × List (RingId × ℕ)) : Type 0 where
+  pub given : IsAnswer best answers
+  pub greatest : AllByRecursion (λ (answer : NodeId × List (RingId × ℕ)). is_at_or_after best.1 answer.1 ≡ true) answers
+  pub preferred : AllByRecursion (λ (answer : NodeId × List (RingId × ℕ)). answer.1 ≡ best.1 → IsPreferred own best.0 answer.0) answers

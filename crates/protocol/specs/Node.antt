@@ -129,9 +129,6 @@ prints lines a = record a { lines = a.lines ++ lines }
 abbrev pub sends_all : List Sent → Acting → Acting
 sends_all frames a = record a { frames = a.frames ++ frames }
 
-abbrev pub with_view : View → Acting → Acting
-with_view view a = record a { view = view }
-
 -- the changes of a step as one record
 abbrev pub work_of : List Change → Work
 work_of [] = Nothing

@@ -4,7 +4,8 @@ ghost use Rattle.std.specs.Prelude.{◌≡◌, [], ◌∷◌, codes};
 ghost use Rattle.command_codec.specs.declared.command.Command.TheVariants.{Append};
 ghost use Rattle.plain_model.specs.Rows.{client, log};
 ghost use Rattle.protocol.specs.Lines.Line.{Answer, Busy};
-ghost use Rattle.protocol.specs.ClientRows.{Asks, Ticks, Replies, does_all, first_submit, append_hi, hi_bytes, scan_all, scan_bytes, one_entry, at_log_0};
+ghost use Rattle.protocol.specs.Client.{missing};
+ghost use Rattle.protocol.specs.ClientRows.{Asks, Ticks, Replies, partition, two_parts, does_all, first_submit, append_hi, hi_bytes, scan_all, scan_bytes, one_entry, at_log_0};
 
 /// An append goes to the first acceptor of the home ring of its partition.
 pub fn an_ask()
@@ -40,4 +41,11 @@ pub fn a_joined_answer()
 pub fn two_commands()
     ensures { (does_all (Asks append_hi ∷ Replies 0 1 (at_log_0 0) ∷ Asks append_hi ∷ Replies 1 2 (at_log_0 1) ∷ Replies 0 2 (at_log_0 1) ∷ [])).lines ≡
         Answer (client 0) 1 (1 ∷ 1 ∷ 0 ∷ 0 ∷ 0 ∷ 0 ∷ 0 ∷ 0 ∷ 0 ∷ 0 ∷ 0 ∷ []) ∷ Answer (client 0) 2 (1 ∷ 1 ∷ 0 ∷ 0 ∷ 0 ∷ 0 ∷ 0 ∷ 0 ∷ 0 ∷ 0 ∷ 1 ∷ []) ∷ [] }
+{}
+
+/// A scan of both partitions waits for both, then for the one that hasn't replied, and in the end for none.
+pub fn what_is_missing()
+    ensures both { missing two_parts (does_all (Asks scan_all ∷ [])).client ≡ partition 0 ∷ partition 1 ∷ [] }
+    ensures one { missing two_parts (does_all (Asks scan_all ∷ Replies 1 1 (one_entry (codes "z") (codes "2")) ∷ [])).client ≡ partition 0 ∷ [] }
+    ensures none { missing two_parts (does_all (Asks scan_all ∷ Replies 1 1 (one_entry (codes "z") (codes "2")) ∷ Replies 0 1 (one_entry (codes "a") (codes "1")) ∷ [])).client ≡ [] }
 {}

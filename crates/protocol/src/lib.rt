@@ -9,10 +9,13 @@ mod client_rows;
 mod laws;
 mod rows;
 
-pub use client_rows::{a_busy_client, a_joined_answer, a_scan, an_ask, three_tries, two_commands};
+pub use client_rows::{
+    a_busy_client, a_joined_answer, a_scan, an_ask, three_tries, two_commands, what_is_missing,
+};
 pub use laws::{
     a_round_says_the_least_answer, a_start_takes_the_least_ballot, coverage_is_a_majority,
-    learned_ranges_are_maximal, pages_are_longest_prefixes, runs_of_due_skips_are_longest,
+    learned_ranges_are_maximal, members_are_acceptors_and_then_replicas, nodes_are_put_by_id,
+    pages_are_longest_prefixes, runs_of_due_skips_are_longest, the_best_answer_is_chosen,
     the_first_value_stays, the_higher_vote_stands,
 };
 pub use rows::{

@@ -21,3 +21,8 @@ pub mod Compaction_stopped_before
 pub mod Compaction_stopped_after
 pub mod Nine_nodes
 pub mod Ordinary_run
+pub mod Failed_calls
+pub mod Suspected_leader
+pub mod Gone_checkpoint
+pub mod Trimmed_too_far
+pub mod Told_trim

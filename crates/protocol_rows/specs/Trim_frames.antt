@@ -1,6 +1,7 @@
 -- The same, and the frames of the round are printed.
 use Rattle.std.specs.Prelude.{List, [], ◌∷◌, Some, None}
 use Rattle.mrp_types.specs.declared.id.Party.TheVariants.{Node}
+use Rattle.mrp_types.specs.declared.value.Value.TheVariants as value
 use Rattle.command_codec.specs.declared.command.Command.TheVariants as command
 use Rattle.protocol.specs.Lines.{Line}
 use Rattle.protocol.specs.Lines as line
@@ -38,6 +39,40 @@ schedule =
 
 abbrev pub lines : List Line
 lines =
+    line.Up (node 0) 1 ∷
+    line.Begin (node 0) 1 1 (0 ∷ []) ∷
+    line.Up (node 1) 1 ∷
+    line.Begin (node 1) 1 1 (0 ∷ []) ∷
+    line.Up (node 2) 1 ∷
+    line.Begin (node 2) 1 1 (0 ∷ []) ∷
+    line.Chose (node 0) 1 1 (0 ∷ []) (node 0) ∷
+    line.Restore (node 0) (0 ∷ []) ∷
+    line.Chose (node 1) 1 1 (0 ∷ []) (node 1) ∷
+    line.Restore (node 1) (0 ∷ []) ∷
+    line.Chose (node 2) 1 1 (0 ∷ []) (node 2) ∷
+    line.Restore (node 2) (0 ∷ []) ∷
+    line.Learn (node 1) (ring 0) 0 1 (value.Batch (1 ∷ 0 ∷ 1 ∷ 0 ∷ 0 ∷ 0 ∷ 0 ∷ 0 ∷ 0 ∷ 0 ∷ 0 ∷ 1 ∷ 0 ∷ 6 ∷ 1 ∷ 0 ∷ 0 ∷ 2 ∷ 104 ∷ 105 ∷ [])) ∷
+    line.Deliver (node 1) (ring 0) 0 ∷
+    line.Reply (node 1) (ring 0) 0 0 (client 0) 1 (1 ∷ 1 ∷ 0 ∷ 0 ∷ 0 ∷ 0 ∷ 0 ∷ 0 ∷ 0 ∷ 0 ∷ 0 ∷ []) ∷
+    line.Learn (node 2) (ring 0) 0 1 (value.Batch (1 ∷ 0 ∷ 1 ∷ 0 ∷ 0 ∷ 0 ∷ 0 ∷ 0 ∷ 0 ∷ 0 ∷ 0 ∷ 1 ∷ 0 ∷ 6 ∷ 1 ∷ 0 ∷ 0 ∷ 2 ∷ 104 ∷ 105 ∷ [])) ∷
+    line.Deliver (node 2) (ring 0) 0 ∷
+    line.Reply (node 2) (ring 0) 0 0 (client 0) 1 (1 ∷ 1 ∷ 0 ∷ 0 ∷ 0 ∷ 0 ∷ 0 ∷ 0 ∷ 0 ∷ 0 ∷ 0 ∷ []) ∷
+    line.Answer (client 0) 1 (1 ∷ 1 ∷ 0 ∷ 0 ∷ 0 ∷ 0 ∷ 0 ∷ 0 ∷ 0 ∷ 0 ∷ 0 ∷ []) ∷
+    line.Learn (node 0) (ring 0) 0 1 (value.Batch (1 ∷ 0 ∷ 1 ∷ 0 ∷ 0 ∷ 0 ∷ 0 ∷ 0 ∷ 0 ∷ 0 ∷ 0 ∷ 1 ∷ 0 ∷ 6 ∷ 1 ∷ 0 ∷ 0 ∷ 2 ∷ 104 ∷ 105 ∷ [])) ∷
+    line.Deliver (node 0) (ring 0) 0 ∷
+    line.Reply (node 0) (ring 0) 0 0 (client 0) 1 (1 ∷ 1 ∷ 0 ∷ 0 ∷ 0 ∷ 0 ∷ 0 ∷ 0 ∷ 0 ∷ 0 ∷ 0 ∷ []) ∷
+    line.Learn (node 1) (ring 0) 1 2 (value.Batch (1 ∷ 0 ∷ 1 ∷ 0 ∷ 0 ∷ 0 ∷ 0 ∷ 0 ∷ 0 ∷ 0 ∷ 0 ∷ 2 ∷ 0 ∷ 6 ∷ 1 ∷ 0 ∷ 0 ∷ 2 ∷ 111 ∷ 107 ∷ [])) ∷
+    line.Deliver (node 1) (ring 0) 1 ∷
+    line.Reply (node 1) (ring 0) 1 0 (client 0) 2 (1 ∷ 1 ∷ 0 ∷ 0 ∷ 0 ∷ 0 ∷ 0 ∷ 0 ∷ 0 ∷ 0 ∷ 1 ∷ []) ∷
+    line.Learn (node 2) (ring 0) 1 2 (value.Batch (1 ∷ 0 ∷ 1 ∷ 0 ∷ 0 ∷ 0 ∷ 0 ∷ 0 ∷ 0 ∷ 0 ∷ 0 ∷ 2 ∷ 0 ∷ 6 ∷ 1 ∷ 0 ∷ 0 ∷ 2 ∷ 111 ∷ 107 ∷ [])) ∷
+    line.Deliver (node 2) (ring 0) 1 ∷
+    line.Reply (node 2) (ring 0) 1 0 (client 0) 2 (1 ∷ 1 ∷ 0 ∷ 0 ∷ 0 ∷ 0 ∷ 0 ∷ 0 ∷ 0 ∷ 0 ∷ 1 ∷ []) ∷
+    line.Answer (client 0) 2 (1 ∷ 1 ∷ 0 ∷ 0 ∷ 0 ∷ 0 ∷ 0 ∷ 0 ∷ 0 ∷ 0 ∷ 1 ∷ []) ∷
+    line.Learn (node 0) (ring 0) 1 2 (value.Batch (1 ∷ 0 ∷ 1 ∷ 0 ∷ 0 ∷ 0 ∷ 0 ∷ 0 ∷ 0 ∷ 0 ∷ 0 ∷ 2 ∷ 0 ∷ 6 ∷ 1 ∷ 0 ∷ 0 ∷ 2 ∷ 111 ∷ 107 ∷ [])) ∷
+    line.Deliver (node 0) (ring 0) 1 ∷
+    line.Reply (node 0) (ring 0) 1 0 (client 0) 2 (1 ∷ 1 ∷ 0 ∷ 0 ∷ 0 ∷ 0 ∷ 0 ∷ 0 ∷ 0 ∷ 0 ∷ 1 ∷ []) ∷
+    line.Saved (node 1) (2 ∷ []) ∷
+    line.Saved (node 0) (2 ∷ []) ∷
     line.Trim (node 0) (ring 0) 2 ∷
     line.Frame 33 (Some (record { from = Node (node 0); to = Node (node 1); bytes = 77 ∷ 82 ∷ 1 ∷ 10 ∷ 0 ∷ 0 ∷ 0 ∷ 0 ∷ 0 ∷ 0 ∷ 0 ∷ 0 ∷ 0 ∷ 0 ∷ 1 ∷ [] })) ∷
     line.Frame 38 (Some (record { from = Node (node 1); to = Node (node 0); bytes = 77 ∷ 82 ∷ 1 ∷ 11 ∷ 0 ∷ 1 ∷ 0 ∷ 0 ∷ 0 ∷ 0 ∷ 0 ∷ 0 ∷ 0 ∷ 0 ∷ 1 ∷ 0 ∷ 0 ∷ 0 ∷ 0 ∷ 0 ∷ 0 ∷ 0 ∷ 2 ∷ [] })) ∷

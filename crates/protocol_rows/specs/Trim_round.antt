@@ -1,5 +1,6 @@
 -- Two replicas have saved, and a coordinator trims below their checkpoints.
 use Rattle.std.specs.Prelude.{List, [], ◌∷◌}
+use Rattle.mrp_types.specs.declared.value.Value.TheVariants as value
 use Rattle.command_codec.specs.declared.command.Command.TheVariants as command
 use Rattle.protocol.specs.Lines.{Line}
 use Rattle.protocol.specs.Lines as line
@@ -32,6 +33,38 @@ schedule =
 
 abbrev pub lines : List Line
 lines =
+    line.Up (node 0) 1 ∷
+    line.Begin (node 0) 1 1 (0 ∷ []) ∷
+    line.Up (node 1) 1 ∷
+    line.Begin (node 1) 1 1 (0 ∷ []) ∷
+    line.Up (node 2) 1 ∷
+    line.Begin (node 2) 1 1 (0 ∷ []) ∷
+    line.Chose (node 0) 1 1 (0 ∷ []) (node 0) ∷
+    line.Restore (node 0) (0 ∷ []) ∷
+    line.Chose (node 1) 1 1 (0 ∷ []) (node 1) ∷
+    line.Restore (node 1) (0 ∷ []) ∷
+    line.Chose (node 2) 1 1 (0 ∷ []) (node 2) ∷
+    line.Restore (node 2) (0 ∷ []) ∷
+    line.Learn (node 1) (ring 0) 0 1 (value.Batch (1 ∷ 0 ∷ 1 ∷ 0 ∷ 0 ∷ 0 ∷ 0 ∷ 0 ∷ 0 ∷ 0 ∷ 0 ∷ 1 ∷ 0 ∷ 6 ∷ 1 ∷ 0 ∷ 0 ∷ 2 ∷ 104 ∷ 105 ∷ [])) ∷
+    line.Deliver (node 1) (ring 0) 0 ∷
+    line.Reply (node 1) (ring 0) 0 0 (client 0) 1 (1 ∷ 1 ∷ 0 ∷ 0 ∷ 0 ∷ 0 ∷ 0 ∷ 0 ∷ 0 ∷ 0 ∷ 0 ∷ []) ∷
+    line.Learn (node 2) (ring 0) 0 1 (value.Batch (1 ∷ 0 ∷ 1 ∷ 0 ∷ 0 ∷ 0 ∷ 0 ∷ 0 ∷ 0 ∷ 0 ∷ 0 ∷ 1 ∷ 0 ∷ 6 ∷ 1 ∷ 0 ∷ 0 ∷ 2 ∷ 104 ∷ 105 ∷ [])) ∷
+    line.Deliver (node 2) (ring 0) 0 ∷
+    line.Reply (node 2) (ring 0) 0 0 (client 0) 1 (1 ∷ 1 ∷ 0 ∷ 0 ∷ 0 ∷ 0 ∷ 0 ∷ 0 ∷ 0 ∷ 0 ∷ 0 ∷ []) ∷
+    line.Answer (client 0) 1 (1 ∷ 1 ∷ 0 ∷ 0 ∷ 0 ∷ 0 ∷ 0 ∷ 0 ∷ 0 ∷ 0 ∷ 0 ∷ []) ∷
+    line.Learn (node 0) (ring 0) 0 1 (value.Batch (1 ∷ 0 ∷ 1 ∷ 0 ∷ 0 ∷ 0 ∷ 0 ∷ 0 ∷ 0 ∷ 0 ∷ 0 ∷ 1 ∷ 0 ∷ 6 ∷ 1 ∷ 0 ∷ 0 ∷ 2 ∷ 104 ∷ 105 ∷ [])) ∷
+    line.Deliver (node 0) (ring 0) 0 ∷
+    line.Reply (node 0) (ring 0) 0 0 (client 0) 1 (1 ∷ 1 ∷ 0 ∷ 0 ∷ 0 ∷ 0 ∷ 0 ∷ 0 ∷ 0 ∷ 0 ∷ 0 ∷ []) ∷
+    line.Learn (node 1) (ring 0) 1 2 (value.Batch (1 ∷ 0 ∷ 1 ∷ 0 ∷ 0 ∷ 0 ∷ 0 ∷ 0 ∷ 0 ∷ 0 ∷ 0 ∷ 2 ∷ 0 ∷ 6 ∷ 1 ∷ 0 ∷ 0 ∷ 2 ∷ 111 ∷ 107 ∷ [])) ∷
+    line.Deliver (node 1) (ring 0) 1 ∷
+    line.Reply (node 1) (ring 0) 1 0 (client 0) 2 (1 ∷ 1 ∷ 0 ∷ 0 ∷ 0 ∷ 0 ∷ 0 ∷ 0 ∷ 0 ∷ 0 ∷ 1 ∷ []) ∷
+    line.Learn (node 2) (ring 0) 1 2 (value.Batch (1 ∷ 0 ∷ 1 ∷ 0 ∷ 0 ∷ 0 ∷ 0 ∷ 0 ∷ 0 ∷ 0 ∷ 0 ∷ 2 ∷ 0 ∷ 6 ∷ 1 ∷ 0 ∷ 0 ∷ 2 ∷ 111 ∷ 107 ∷ [])) ∷
+    line.Deliver (node 2) (ring 0) 1 ∷
+    line.Reply (node 2) (ring 0) 1 0 (client 0) 2 (1 ∷ 1 ∷ 0 ∷ 0 ∷ 0 ∷ 0 ∷ 0 ∷ 0 ∷ 0 ∷ 0 ∷ 1 ∷ []) ∷
+    line.Answer (client 0) 2 (1 ∷ 1 ∷ 0 ∷ 0 ∷ 0 ∷ 0 ∷ 0 ∷ 0 ∷ 0 ∷ 0 ∷ 1 ∷ []) ∷
+    line.Learn (node 0) (ring 0) 1 2 (value.Batch (1 ∷ 0 ∷ 1 ∷ 0 ∷ 0 ∷ 0 ∷ 0 ∷ 0 ∷ 0 ∷ 0 ∷ 0 ∷ 2 ∷ 0 ∷ 6 ∷ 1 ∷ 0 ∷ 0 ∷ 2 ∷ 111 ∷ 107 ∷ [])) ∷
+    line.Deliver (node 0) (ring 0) 1 ∷
+    line.Reply (node 0) (ring 0) 1 0 (client 0) 2 (1 ∷ 1 ∷ 0 ∷ 0 ∷ 0 ∷ 0 ∷ 0 ∷ 0 ∷ 0 ∷ 0 ∷ 1 ∷ []) ∷
     line.Saved (node 1) (2 ∷ []) ∷
     line.Saved (node 0) (2 ∷ []) ∷
     line.Trim (node 0) (ring 0) 2 ∷

@@ -1,5 +1,5 @@
 -- Short words for the worked schedules.
-use Rattle.std.specs.Prelude.{ℕ, zero, suc, ◌-◌, List, [], ◌∷◌, length, drop}
+use Rattle.std.specs.Prelude.{ℕ, ◌-◌, List, [], ◌∷◌, length, drop}
 use Rattle.mrp_types.specs.declared.id.NodeId.{NodeId}
 use Rattle.mrp_types.specs.declared.id.RingId.{RingId}
 use Rattle.mrp_types.specs.declared.id.ClientId.{ClientId}
@@ -22,18 +22,13 @@ partition n = record { 0 = n }
 abbrev pub log : ℕ → LogId
 log n = record { 0 = n }
 
--- the last of some, as many as there are in another list
+-- the last of some, as many as there are in another list: for a law of the last lines alone, as the script `row` writes it
 abbrev pub last_of : {A : Type 0} → List A → List A → List A
 last_of xs ys = drop (length ys - length xs) ys
 
--- so many numbers, one after another
-abbrev pub first_numbers : ℕ → ℕ → List ℕ
-first_numbers from zero = []
-first_numbers from (suc n) = from ∷ first_numbers (suc from) n
-
--- the numbers of the commands that were answered, in the order of the answers; one that was refused as busy counts as 0
-abbrev pub answered : List Line → List ℕ
-answered [] = []
-answered (Answer client seq reply ∷ lines) = seq ∷ answered lines
-answered (Busy client seq ∷ lines) = 0 ∷ answered lines
-answered (other ∷ lines) = answered lines
+-- what clients are told of their commands: the answers, and that a command isn't asked since the client is busy
+abbrev pub told_to_clients : List Line → List Line
+told_to_clients [] = []
+told_to_clients (Answer client seq reply ∷ lines) = Answer client seq reply ∷ told_to_clients lines
+told_to_clients (Busy client seq ∷ lines) = Busy client seq ∷ told_to_clients lines
+told_to_clients (other ∷ lines) = told_to_clients lines

@@ -3,10 +3,11 @@
 ghost use Rattle.std.specs.Prelude.{◌≡◌};
 ghost use Rattle.world_model.specs.Trace.{trace};
 ghost use Rattle.protocol_rows.specs.Nine_nodes.{config};
-ghost use Rattle.protocol_rows.specs.Ordinary_run.{schedule};
-ghost use Rattle.protocol_rows.specs.Words.{answered, first_numbers};
+ghost use Rattle.protocol_rows.specs.Ordinary_run.{schedule, answers};
+ghost use Rattle.protocol_rows.specs.Words.{told_to_clients};
 
-/// Each command is answered, one after another, and none is refused as busy.
+/// These are all lines that tell the client of its commands: each is answered, one after another, with these bytes, and none is
+/// refused as busy.
 pub fn prints()
-    ensures { answered (trace config schedule) ≡ first_numbers 1 10 }
+    ensures { told_to_clients (trace config schedule) ≡ answers }
 {}

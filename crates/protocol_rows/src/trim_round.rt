@@ -2,11 +2,10 @@
 
 ghost use Rattle.std.specs.Prelude.{◌≡◌};
 ghost use Rattle.world_model.specs.Trace.{trace};
-ghost use Rattle.protocol_rows.specs.Words.{last_of};
 ghost use Rattle.protocol_rows.specs.Three_nodes.{config};
 ghost use Rattle.protocol_rows.specs.Trim_round.{schedule, lines};
 
-/// The lines end with these.
+/// These are all lines.
 pub fn prints()
-    ensures { last_of lines (trace config schedule) ≡ lines }
+    ensures { trace config schedule ≡ lines }
 {}

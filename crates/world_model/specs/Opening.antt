@@ -18,9 +18,9 @@ use Rattle.command_codec.specs.declared.fault.CodecFault.{CodecFault}
 use Rattle.mrp_config.specs.Config.{Config}
 use Rattle.mrp_config.specs.declared.tables.PartitionTable.{PartitionTable}
 use Rattle.plain_model.specs.Replicas.{Replica}
-use Rattle.plain_model.specs.StateBytes.{whole_state}
+use Rattle.plain_model.specs.StateBytes.{whole_state, fault_position}
 use Rattle.plain_model.specs.Tuples.{round_sizes, is_tuple_of}
-use Rattle.checkpoint.specs.Checks.{Checks, Checkpoint, checks_of, place, place_of}
+use Rattle.checkpoint.specs.Checks.{Checks, Checkpoint, checks_of, place}
 use Rattle.protocol.specs.Lines.{Cause, Disk, Full}
 use Rattle.protocol.specs.Opening.{partition_of}
 use Rattle.world_model.specs.Disks.{Op, Reads, Does}
@@ -58,7 +58,7 @@ found_in area generation limit (Ok records) = Ok (record { log = log_of area gen
 found_in area generation limit (Err at) = Err Disk
 
 -- A fresh pair gets a journal without records, which isn't read. A byte that can't be there is a fault of the disk: none of
--- what a node writes, and no image of it, has one.
+-- what the calls of a journal write, and no image of it, has one.
 abbrev pub found_by : ℕ → Areas → Result (Option (Area × ℕ)) (Area × ℕ) → Result Found Cause
 found_by limit areas (Err spot) = Err Disk
 found_by limit areas (Ok None) = Ok (record { log = log_of Journal0 1 limit []; records = [] })
@@ -93,7 +93,7 @@ opened_journal id (Err cause) = record { work = []; result = Err cause }
 -- a state that is at fault, by where it begins
 abbrev pub judged_state : Area × ℕ × ℕ → Checks → Result Replica CodecFault → Result Checks (Area × ℕ)
 judged_state place checks (Ok replica) = Ok checks
-judged_state place checks (Err fault) = Err (place.0, place.2 + place_of fault)
+judged_state place checks (Err fault) = Err (place.0, place.2 + fault_position fault)
 
 abbrev pub judged_newest : Config → PartitionTable → Checks → Option Checkpoint → Option (Area × ℕ × ℕ) → Result Checks (Area × ℕ)
 judged_newest config p checks None place = Ok checks

@@ -4,7 +4,9 @@ use Rattle.mrp_types.specs.declared.id.NodeId.{NodeId}
 use Rattle.mrp_config.specs.Config.{Config}
 use Rattle.disk_model.specs.declared.areas.Areas.{Areas}
 use Rattle.disk_model.specs.Calls.{IsImage}
+use Rattle.command_codec.specs.Valid.{IsCommand}
 use Rattle.world_model.specs.Events.{ScheduleEvent}
+use Rattle.world_model.specs.Events as event
 use Rattle.world_model.specs.Worlds.{Host, Up, Down, World, Outcome, quiet, and_then, node_at, happens, comes_back, started}
 
 pub data Happening : Type 0 where
@@ -24,8 +26,13 @@ MayReturn image None = Unit {0}
 MayReturn image (Some (Up view disk)) = Unit {0}
 MayReturn image (Some (Down told plan)) = IsImage told image
 
+-- a command that is asked has a spelling; any other event may stand in a schedule
+abbrev pub MayBeScheduled : ScheduleEvent → Type 0
+MayBeScheduled (event.Ask client command) = IsCommand command
+MayBeScheduled other = Unit {0}
+
 abbrev pub MayHappen : World → Happening → Type 0
-MayHappen w (Scheduled event) = Unit {0}
+MayHappen w (Scheduled event) = MayBeScheduled event
 MayHappen w (Returns id image) = MayReturn image (node_at w id)
 
 -- the world after all of them, and their lines
@@ -42,5 +49,6 @@ MayRun config (x ∷ xs) w = MayHappen w x × MayRun config xs (outcome_of confi
 abbrev pub run_of : Config → List Happening → Outcome
 run_of config xs = and_then (started config) (λ w. ran_from config xs w)
 
+-- From the start on each of them happens when it may.
 abbrev pub IsRun : Config → List Happening → Type 0
 IsRun config xs = MayRun config xs (started config).world

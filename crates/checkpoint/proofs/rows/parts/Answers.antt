@@ -29,3 +29,7 @@ returns-clause-later c = refl
 pub returns-clause-fresh : goal.returns-clause-fresh
 unfolding u64_bytes bytes_at number_at within tuple_at generation_of checkpoint_at
 returns-clause-fresh c = refl
+
+pub returns-clause-others : goal.returns-clause-others
+unfolding u64_bytes bytes_at number_at within tuple_at generation_of checkpoint_at
+returns-clause-others c = refl

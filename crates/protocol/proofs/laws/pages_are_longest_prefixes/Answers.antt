@@ -2,14 +2,14 @@ use Rattle.std.proofs.Common.{◌-◌}
 use Rattle.frames.specs.Spelling.{vote_size, decided_size}
 use Rattle.protocol.specs.Acceptor.{page_room}
 use Rattle.protocol.specs.Coordinator.{unproposed, entry_size}
-use Rattle.protocol.proofs.PageLemmas.{is_longest}
+use Rattle.plain_model.proofs.Pages.{front-longest}
 use Rattle.protocol.proofs.laws.pages_are_longest_prefixes.Goals as goal
 
 pub returns-clause-votes : goal.returns-clause-votes
-returns-clause-votes c = λ votes. is_longest vote_size page_room votes
+returns-clause-votes c = λ votes. front-longest vote_size page_room votes
 
 pub returns-clause-ranges : goal.returns-clause-ranges
-returns-clause-ranges c = λ ranges. is_longest decided_size page_room ranges
+returns-clause-ranges c = λ ranges. front-longest decided_size page_room ranges
 
 pub returns-clause-batch : goal.returns-clause-batch
-returns-clause-batch c = λ pending. is_longest entry_size (8192 - 3) (unproposed pending)
+returns-clause-batch c = λ pending. front-longest entry_size (8192 - 3) (unproposed pending)

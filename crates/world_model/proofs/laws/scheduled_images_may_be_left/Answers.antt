@@ -14,7 +14,7 @@ may_be image t Check2 = left_can image (kept Check2 t)
 may_be image t Check3 = left_can image (kept Check3 t)
 
 pub returns-clause-may : goal.returns-clause-may
-returns-clause-may c = may_be
+returns-clause-may c = λ image t plan. may_be image t
 
 pub returns-clause-same : goal.returns-clause-same
 returns-clause-same c = λ config id image t plan w. refl

@@ -1,0 +1,84 @@
+-- A ready replica is told a trim above the place for which it waits: it recovers anew, from the checkpoint of another.
+use Rattle.std.specs.Prelude.{List, [], ◌∷◌, Some, None}
+use Rattle.mrp_types.specs.declared.value.Value.TheVariants as value
+use Rattle.command_codec.specs.declared.command.Command.TheVariants as command
+use Rattle.protocol.specs.Lines.{Line}
+use Rattle.protocol.specs.Lines as line
+use Rattle.world_model.specs.Events.{ScheduleEvent}
+use Rattle.world_model.specs.Events as event
+use Rattle.protocol_rows.specs.Words.{node, ring, client, log}
+
+abbrev pub schedule : List ScheduleEvent
+schedule =
+    event.Flow 100 ∷
+    event.Lead (node 0) (ring 0) ∷
+    event.Flow 100 ∷
+    event.Ask (client 0) (command.Append (log 0) (104 ∷ 105 ∷ [])) ∷
+    event.Flow 2 ∷
+    event.Lose 1 ∷
+    event.Flow 1 ∷
+    event.Ask (client 0) (command.Append (log 0) (111 ∷ 107 ∷ [])) ∷
+    event.Flow 2 ∷
+    event.Lose 1 ∷
+    event.Flow 1 ∷
+    event.TickNode (node 1) ∷
+    event.TickNode (node 0) ∷
+    event.TickNode (node 0) ∷
+    event.TickNode (node 0) ∷
+    event.TickNode (node 0) ∷
+    event.Deliver 26 ∷
+    event.Deliver 29 ∷
+    event.TickNode (node 0) ∷
+    event.TickNode (node 0) ∷
+    event.TickNode (node 0) ∷
+    event.TickNode (node 0) ∷
+    event.TickNode (node 0) ∷
+    event.Deliver 32 ∷
+    event.Deliver 37 ∷
+    event.Deliver 39 ∷
+    event.Show (node 2) ∷
+    event.Deliver 40 ∷
+    event.Deliver 42 ∷
+    event.Deliver 43 ∷
+    event.Deliver 44 ∷
+    event.Show (node 2) ∷
+    []
+
+abbrev pub lines : List Line
+lines =
+    line.Up (node 0) 1 ∷
+    line.Begin (node 0) 1 1 (0 ∷ []) ∷
+    line.Up (node 1) 1 ∷
+    line.Begin (node 1) 1 1 (0 ∷ []) ∷
+    line.Up (node 2) 1 ∷
+    line.Begin (node 2) 1 1 (0 ∷ []) ∷
+    line.Chose (node 0) 1 1 (0 ∷ []) (node 0) ∷
+    line.Restore (node 0) (0 ∷ []) ∷
+    line.Chose (node 1) 1 1 (0 ∷ []) (node 1) ∷
+    line.Restore (node 1) (0 ∷ []) ∷
+    line.Chose (node 2) 1 1 (0 ∷ []) (node 2) ∷
+    line.Restore (node 2) (0 ∷ []) ∷
+    line.Learn (node 1) (ring 0) 0 1 (value.Batch (1 ∷ 0 ∷ 1 ∷ 0 ∷ 0 ∷ 0 ∷ 0 ∷ 0 ∷ 0 ∷ 0 ∷ 0 ∷ 1 ∷ 0 ∷ 6 ∷ 1 ∷ 0 ∷ 0 ∷ 2 ∷ 104 ∷ 105 ∷ [])) ∷
+    line.Deliver (node 1) (ring 0) 0 ∷
+    line.Reply (node 1) (ring 0) 0 0 (client 0) 1 (1 ∷ 1 ∷ 0 ∷ 0 ∷ 0 ∷ 0 ∷ 0 ∷ 0 ∷ 0 ∷ 0 ∷ 0 ∷ []) ∷
+    line.Answer (client 0) 1 (1 ∷ 1 ∷ 0 ∷ 0 ∷ 0 ∷ 0 ∷ 0 ∷ 0 ∷ 0 ∷ 0 ∷ 0 ∷ []) ∷
+    line.Learn (node 1) (ring 0) 1 2 (value.Batch (1 ∷ 0 ∷ 1 ∷ 0 ∷ 0 ∷ 0 ∷ 0 ∷ 0 ∷ 0 ∷ 0 ∷ 0 ∷ 2 ∷ 0 ∷ 6 ∷ 1 ∷ 0 ∷ 0 ∷ 2 ∷ 111 ∷ 107 ∷ [])) ∷
+    line.Deliver (node 1) (ring 0) 1 ∷
+    line.Reply (node 1) (ring 0) 1 0 (client 0) 2 (1 ∷ 1 ∷ 0 ∷ 0 ∷ 0 ∷ 0 ∷ 0 ∷ 0 ∷ 0 ∷ 0 ∷ 1 ∷ []) ∷
+    line.Answer (client 0) 2 (1 ∷ 1 ∷ 0 ∷ 0 ∷ 0 ∷ 0 ∷ 0 ∷ 0 ∷ 0 ∷ 0 ∷ 1 ∷ []) ∷
+    line.Saved (node 1) (2 ∷ []) ∷
+    line.Learn (node 0) (ring 0) 0 1 (value.Batch (1 ∷ 0 ∷ 1 ∷ 0 ∷ 0 ∷ 0 ∷ 0 ∷ 0 ∷ 0 ∷ 0 ∷ 0 ∷ 1 ∷ 0 ∷ 6 ∷ 1 ∷ 0 ∷ 0 ∷ 2 ∷ 104 ∷ 105 ∷ [])) ∷
+    line.Deliver (node 0) (ring 0) 0 ∷
+    line.Reply (node 0) (ring 0) 0 0 (client 0) 1 (1 ∷ 1 ∷ 0 ∷ 0 ∷ 0 ∷ 0 ∷ 0 ∷ 0 ∷ 0 ∷ 0 ∷ 0 ∷ []) ∷
+    line.Learn (node 0) (ring 0) 1 2 (value.Batch (1 ∷ 0 ∷ 1 ∷ 0 ∷ 0 ∷ 0 ∷ 0 ∷ 0 ∷ 0 ∷ 0 ∷ 0 ∷ 2 ∷ 0 ∷ 6 ∷ 1 ∷ 0 ∷ 0 ∷ 2 ∷ 111 ∷ 107 ∷ [])) ∷
+    line.Deliver (node 0) (ring 0) 1 ∷
+    line.Reply (node 0) (ring 0) 1 0 (client 0) 2 (1 ∷ 1 ∷ 0 ∷ 0 ∷ 0 ∷ 0 ∷ 0 ∷ 0 ∷ 0 ∷ 0 ∷ 1 ∷ []) ∷
+    line.Saved (node 0) (2 ∷ []) ∷
+    line.Trim (node 0) (ring 0) 2 ∷
+    line.Begin (node 2) 1 2 (0 ∷ []) ∷
+    line.State (node 2) None ∷
+    line.Chose (node 2) 1 2 (2 ∷ []) (node 0) ∷
+    line.Restore (node 2) (2 ∷ []) ∷
+    line.State (node 2) (Some ((2 ∷ []), (0 ∷ 1 ∷ 0 ∷ 0 ∷ 0 ∷ 0 ∷ 0 ∷ 0 ∷ 0 ∷ 0 ∷ 2 ∷ 0 ∷ 0 ∷ 0 ∷ 11 ∷ 1 ∷ 1 ∷ 0 ∷ 0 ∷ 0 ∷ 0 ∷ 0 ∷ 0 ∷ 0 ∷ 0 ∷ 1 ∷ 1 ∷ 0 ∷ 0 ∷ 0 ∷ 0 ∷ 0 ∷ 0 ∷ 0 ∷ 0 ∷ 0 ∷ 0 ∷ 0 ∷ 0 ∷ 0 ∷ 0 ∷ 0 ∷ 0 ∷ 2 ∷ 0 ∷ 2 ∷ 104 ∷ 105 ∷ 0 ∷ 2 ∷ 111 ∷ 107 ∷ 0 ∷ 0 ∷ 0 ∷ 0 ∷ 0 ∷ 0 ∷ 0 ∷ 0 ∷ []))) ∷
+    line.End 32 ∷
+    []
