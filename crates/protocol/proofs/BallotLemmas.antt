@@ -9,7 +9,7 @@ use Rattle.std.proofs.lemmas.Nat.{mod-mul-add}
 use Rattle.std.proofs.Math.Nat.{mod-add-div', add-mod_right, mod-eq_of_lt, mod-lt, mul-le-mul_right}
 use Rattle.protocol.specs.Parts.{Ring, Part}
 use Rattle.protocol.specs.Rings.{position_of, acceptor_at, owner_of}
-use Rattle.protocol.specs.Coordinator.{least_above, greatest_seen, own_ballot}
+use Rattle.protocol.specs.Ballots.{least_above, greatest_seen, own_ballot}
 use Rattle.protocol.specs.Meaning.{IsLeastAbove, HasOnePosition, IsLeastOwned}
 use Rattle.protocol.proofs.EntryLemmas.{eq-false}
 

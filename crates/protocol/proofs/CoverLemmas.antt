@@ -8,7 +8,7 @@ use Rattle.std.proofs.lemmas.List.Sums.{length-filter}
 use Rattle.range_map.proofs.SetLemmas.{le-true, le-false}
 use Rattle.protocol.specs.Parts.{Ring}
 use Rattle.protocol.specs.Rings.{majority_of}
-use Rattle.protocol.specs.Coordinator.{reached_by, covered_to}
+use Rattle.protocol.specs.Ballots.{reached_by, covered_to}
 use Rattle.protocol.specs.Meaning.{IsCovered}
 
 lt-true : (a b : ℕ) → a < b → nat_lt a b ≡ true

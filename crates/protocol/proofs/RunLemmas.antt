@@ -11,7 +11,8 @@ use Rattle.range_map.proofs.SetLemmas.{le-true, le-false}
 use Rattle.range_map.proofs.EntryLemmas.{none_below}
 use Rattle.vote_state.specs.declared.cast.Cast.{Cast}
 use Rattle.protocol.specs.Parts.{Ring, Campaign}
-use Rattle.protocol.specs.Coordinator.{covered_to, leads_now, reported_to, due_by, first_where, is_batch, is_any, gaps_to, run_end}
+use Rattle.protocol.specs.Ballots.{covered_to, leads_now}
+use Rattle.protocol.specs.Proposing.{reported_to, due_by, first_where, is_batch, is_any, gaps_to, run_end}
 use Rattle.protocol.specs.Meaning.{IsDueSkip, IsLongestRun}
 use Rattle.protocol.proofs.EntryLemmas.{value_here, value_later}
 use Rattle.protocol.proofs.CoverLemmas.{covers}

@@ -13,7 +13,8 @@ use Rattle.protocol.specs.Parts.{Ring, Part, Did}
 use Rattle.protocol.specs.Doing.{with_rounds}
 use Rattle.protocol.specs.Learner.{new_part}
 use Rattle.protocol.specs.Acceptor.{prepares, accepts}
-use Rattle.protocol.specs.Coordinator.{leads, promised, submits, levels}
+use Rattle.protocol.specs.Coordinator.{leads, promised, submits}
+use Rattle.protocol.specs.Leading.{levels}
 
 abbrev pub node : ℕ → NodeId
 node n = record { 0 = n }

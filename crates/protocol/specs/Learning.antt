@@ -7,7 +7,7 @@ use Rattle.mrp_config.specs.Config.{Config}
 use Rattle.protocol.specs.Lines.{Learn}
 use Rattle.protocol.specs.Parts.{Ring, Did}
 use Rattle.protocol.specs.Learner.{Taken, learns}
-use Rattle.protocol.specs.Coordinator.{proposes}
+use Rattle.protocol.specs.Proposing.{proposes}
 use Rattle.protocol.specs.Node.{Acting, RingPart, part_at, with_part, prints}
 use Rattle.protocol.specs.Merging.{merges}
 

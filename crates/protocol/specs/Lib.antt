@@ -4,7 +4,10 @@ pub mod Doing
 pub mod Rings
 pub mod Learner
 pub mod Acceptor
+pub mod Ballots
+pub mod Proposing
 pub mod Coordinator
+pub mod Leading
 pub mod Trimming
 pub mod Meaning
 pub mod Example

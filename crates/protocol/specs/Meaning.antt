@@ -12,7 +12,7 @@ use Rattle.mrp_config.specs.declared.tables.PartitionTable.{PartitionTable}
 use Rattle.plain_model.specs.Tuples.{is_at_or_after}
 use Rattle.protocol.specs.Parts.{Ring, Campaign, Round}
 use Rattle.protocol.specs.Rings.{acceptor_at, owner_of, majority_of}
-use Rattle.protocol.specs.Coordinator.{due_at}
+use Rattle.protocol.specs.Proposing.{due_at}
 use Rattle.protocol.specs.Trimming.{answered_of}
 
 -- ---- nodes by id

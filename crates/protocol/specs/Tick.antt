@@ -14,7 +14,8 @@ use Rattle.checkpoint.specs.Checks.{saved}
 use Rattle.protocol.specs.Lines.{Saved}
 use Rattle.protocol.specs.Parts.{Ring, Part, Did}
 use Rattle.protocol.specs.Rings.{is_acceptor, sends, sends_to}
-use Rattle.protocol.specs.Coordinator.{is_active, starts_on_tick, resends, levels}
+use Rattle.protocol.specs.Ballots.{is_active}
+use Rattle.protocol.specs.Leading.{starts_on_tick, resends, levels}
 use Rattle.protocol.specs.Trimming.{asks_round}
 use Rattle.protocol.specs.Node.{Acting, View, RingPart, Service, Stage, Recovering, Ready, Standing, Stepped, Saves, Compacts, begun_with, finished, part_at, sends_all}
 use Rattle.protocol.specs.Merging.{place_of}

@@ -10,7 +10,8 @@ use Rattle.protocol.specs.Parts.{Ring, Round, Rounds, Part, Did}
 use Rattle.protocol.specs.Rings.{replicas_of, by_id, is_subscribed, other_acceptors, sends_each}
 use Rattle.protocol.specs.Doing.{with_rounds, nothing_done, with_part, with_frames, with_line}
 use Rattle.protocol.specs.Acceptor.{trims_to}
-use Rattle.protocol.specs.Coordinator.{role_leads, proposes_after}
+use Rattle.protocol.specs.Ballots.{role_leads}
+use Rattle.protocol.specs.Proposing.{proposes_after}
 
 -- Trimmed and TrimTo at an acceptor: a trim above the own one is taken; then proposing
 unfoldable pub trimmed : Ring → Link → Part → ℕ → Did

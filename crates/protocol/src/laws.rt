@@ -18,7 +18,8 @@ ghost use Rattle.protocol.specs.Parts.{Ring, Pending, Campaign, Learner, Round, 
 ghost use Rattle.protocol.specs.Rings.{position_of, by_id, replicas_of, members_of};
 ghost use Rattle.protocol.specs.Acceptor.{page_room, votes_page, ranges_page};
 ghost use Rattle.protocol.specs.Learner.{first_of, with_met, is_news, with_range_learned, first_gap, learned_ranges};
-ghost use Rattle.protocol.specs.Coordinator.{higher, unproposed, entry_size, fresh_entries, least_above, greatest_seen, own_ballot, covered_to, run_end};
+ghost use Rattle.protocol.specs.Ballots.{higher, least_above, greatest_seen, own_ballot, covered_to};
+ghost use Rattle.protocol.specs.Proposing.{unproposed, entry_size, fresh_entries, run_end};
 ghost use Rattle.protocol.specs.Trimming.{least};
 ghost use Rattle.protocol.specs.Recovery.{best_of};
 ghost use Rattle.protocol.specs.Meaning.{Meets, AreHeld, IsLeastAbove, HasOnePosition, IsLeastOwned, IsCovered, IsLongestRun, AreMaximal, IsLeastAnswer, times, AreByIdFrom, AreIncreasingFrom, IsBestAnswer};

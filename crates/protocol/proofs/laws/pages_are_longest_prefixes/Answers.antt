@@ -1,7 +1,7 @@
 use Rattle.std.proofs.Common.{◌-◌}
 use Rattle.frames.specs.Spelling.{vote_size, decided_size}
 use Rattle.protocol.specs.Acceptor.{page_room}
-use Rattle.protocol.specs.Coordinator.{unproposed, entry_size}
+use Rattle.protocol.specs.Proposing.{unproposed, entry_size}
 use Rattle.plain_model.proofs.Pages.{front-longest}
 use Rattle.protocol.proofs.laws.pages_are_longest_prefixes.Goals as goal
 

@@ -1,4 +1,4 @@
-use Rattle.protocol.specs.Coordinator.{higher}
+use Rattle.protocol.specs.Ballots.{higher}
 use Rattle.protocol.proofs.EntryLemmas.{meets}
 use Rattle.protocol.proofs.laws.the_higher_vote_stands.Goals as goal
 

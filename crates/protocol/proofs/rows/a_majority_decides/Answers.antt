@@ -4,7 +4,10 @@ use Rattle.range_map.specs.Entries.{spread_over}
 use Rattle.vote_state.specs.Ranges.{ranges_of, are_held}
 use Rattle.protocol.specs.Acceptor.{prepares, accepts}
 use Rattle.protocol.specs.Learner.{are_all_held, met_over, gap_after}
-use Rattle.protocol.specs.Coordinator.{leads, proposes_after, proposing, covered_to, first_where, offers, promised, submits, levels}
+use Rattle.protocol.specs.Coordinator.{leads, promised, submits}
+use Rattle.protocol.specs.Proposing.{proposes_after, proposing, first_where, offers}
+use Rattle.protocol.specs.Ballots.{covered_to}
+use Rattle.protocol.specs.Leading.{levels}
 use Rattle.protocol.specs.Trimming.{least, answers}
 use Rattle.protocol.proofs.rows.a_majority_decides.Goals as goal
 
