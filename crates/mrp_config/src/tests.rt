@@ -1,4 +1,5 @@
 mod accepted;
+mod keys;
 mod refused;
 mod routes;
 mod texts;
