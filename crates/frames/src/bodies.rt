@@ -184,8 +184,8 @@ fn read_trimmed(fields: &mut Cursor<'_>) -> Result<Body, CodecFault>
     ensures { Reads (λ b. b) (trimmed_at fields.old) result fields.new }
 {
     let ring = read_ring(fields)?;
-    let trim = read_inst(fields)?;
-    Ok(Body::Trimmed { ring, trim })
+    let inst = read_inst(fields)?;
+    Ok(Body::Trimmed { ring, inst })
 }
 
 #[tactic(auto, unfolding(crate::specs::Grammar::ask_safe_at))]
@@ -212,8 +212,8 @@ fn read_trim_to(fields: &mut Cursor<'_>) -> Result<Body, CodecFault>
     ensures { Reads (λ b. b) (trim_to_at fields.old) result fields.new }
 {
     let ring = read_ring(fields)?;
-    let trim = read_inst(fields)?;
-    Ok(Body::TrimTo { ring, trim })
+    let inst = read_inst(fields)?;
+    Ok(Body::TrimTo { ring, inst })
 }
 
 #[tactic(auto, unfolding(crate::specs::Grammar::ask_checkpoint_at))]

@@ -68,10 +68,10 @@ pub enum Body {
         ring: RingId,
         ranges: Ranges,
     },
-    /// What was asked for is trimmed: nothing below `trim` is kept.
+    /// What was asked for is trimmed: nothing below `inst` is kept.
     Trimmed {
         ring: RingId,
-        trim: Inst,
+        inst: Inst,
     },
     /// Asks for the least instance that a replica may need.
     AskSafe {
@@ -84,10 +84,10 @@ pub enum Body {
         round: u64,
         inst: Inst,
     },
-    /// Nothing below `trim` is to be kept.
+    /// Nothing below `inst` is to be kept.
     TrimTo {
         ring: RingId,
-        trim: Inst,
+        inst: Inst,
     },
     /// Asks for the newest checkpoint.
     AskCheckpoint {

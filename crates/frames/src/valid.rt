@@ -115,10 +115,10 @@ fn is_later_body(body: &Body) -> bool
         } => is_ring(*ring) && is_range(*lo, *hi) && is_value_of(*lo, *hi, value),
         Body::Fetch { ring, lo } => is_ring(*ring) && *lo < END,
         Body::Chosen { ring, ranges } => is_ring(*ring) && are_ranges(ranges.items()),
-        Body::Trimmed { ring, trim } => is_ring(*ring) && *trim < END,
+        Body::Trimmed { ring, inst } => is_ring(*ring) && *inst < END,
         Body::AskSafe { ring, .. } => is_ring(*ring),
         Body::Safe { ring, inst, .. } => is_ring(*ring) && *inst < END,
-        Body::TrimTo { ring, trim } => is_ring(*ring) && *trim < END,
+        Body::TrimTo { ring, inst } => is_ring(*ring) && *inst < END,
         _ => is_ringless_body(body),
     }
 }

@@ -151,10 +151,10 @@ fn put_learning(out: &mut Octets, body: &Body) -> Result<(), Memory>
             put_u8(out, ring.0)?;
             put_ranges(out, ranges.items())
         }
-        Body::Trimmed { ring, trim } => put_one(out, *ring, *trim),
+        Body::Trimmed { ring, inst } => put_one(out, *ring, *inst),
         Body::AskSafe { ring, round } => put_one(out, *ring, *round),
         Body::Safe { ring, round, inst } => put_two(out, *ring, *round, *inst),
-        Body::TrimTo { ring, trim } => put_one(out, *ring, *trim),
+        Body::TrimTo { ring, inst } => put_one(out, *ring, *inst),
         _ => put_ringless(out, body),
     }
 }
