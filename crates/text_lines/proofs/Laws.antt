@@ -1,9 +1,9 @@
 -- Words and lines are read as they are spelled.
 use Rattle.std.proofs.Common.{arith, ◌≡◌, ◌≢◌, ℕ, List, [], ◌∷◌, ◌++◌, Option, Some, None, refl, sym, ap, ◌∙◌, ◌==◌, if◌then◌else◌, Bool, true, false, append_assoc, append-nil}
 use Rattle.std.specs.List.{flat_map, AllByRecursion}
-use Rattle.text_lines.specs.Split.{Line, ended_line, all_ended, line_bytes, unlined, words_of, place_of, onto_first, first_line, onto_line, lines_of, onto_lines}
-use Rattle.text_lines.proofs.Places.{words_of_at, words_at, lines_of_at, lines_at}
-use Rattle.text_lines.specs.Text.{spaced, joined}
+use Rattle.text_lines.specs.Split.{Line, ended_line, all_ended, line_bytes, unlined, pieces_of, words_of, place_of, onto_first, first_line, onto_line, lines_of, onto_lines}
+use Rattle.text_lines.proofs.Places.{pieces_of_at, pieces_at, lines_of_at, lines_at}
+use Rattle.text_lines.specs.Text.{set_off, joined_by, joined}
 
 -- no byte of it is this one
 abbrev pub Lacks : ℕ → List ℕ → Type 0
@@ -19,41 +19,52 @@ first_line_of [] rest lacks = refl
 first_line_of (b ∷ line) rest lacks =
     rw (test_false b 10 lacks.0) (ap (λ (first : Option (List ℕ × Bool × List ℕ)). Some (onto_line b first)) (first_line_of line rest lacks.1))
 
--- ---- words
+-- ---- pieces and words
 
-pub one_word : (word : List ℕ) → Lacks 32 word → words_of word ≡ word ∷ []
-one_word [] lacks = refl
-one_word (b ∷ word) lacks = rw (test_false b 32 lacks.0) (ap (onto_first b) (one_word word lacks.1))
+pub one_piece : (byte : ℕ) (piece : List ℕ) → Lacks byte piece → pieces_of byte piece ≡ piece ∷ []
+one_piece byte [] lacks = refl
+one_piece byte (b ∷ piece) lacks = rw (test_false b byte lacks.0) (ap (onto_first b) (one_piece byte piece lacks.1))
 
-pub word_first : (word rest : List ℕ) → Lacks 32 word → words_of (word ++ 32 ∷ rest) ≡ word ∷ words_of rest
-word_first [] rest lacks = refl
-word_first (b ∷ word) rest lacks = rw (test_false b 32 lacks.0) (ap (onto_first b) (word_first word rest lacks.1))
+pub piece_first : (byte : ℕ) (piece rest : List ℕ) → Lacks byte piece → pieces_of byte (piece ++ byte ∷ rest) ≡ piece ∷ pieces_of byte rest
+piece_first byte [] rest lacks = here (byte == byte) refl
+  where
+    here : (t : Bool) → (byte == byte) ≡ t → (if t then [] ∷ pieces_of byte rest else onto_first byte (pieces_of byte rest)) ≡ [] ∷ pieces_of byte rest
+    here true is = refl
+    here false is = absurd (grind arith)
+piece_first byte (b ∷ piece) rest lacks = rw (test_false b byte lacks.0) (ap (onto_first b) (piece_first byte piece rest lacks.1))
+
+pub pieces_of_joined : (byte : ℕ) (piece : List ℕ) (pieces : List (List ℕ)) → AllByRecursion (Lacks byte) (piece ∷ pieces) →
+    pieces_of byte (joined_by byte (piece ∷ pieces)) ≡ piece ∷ pieces
+pieces_of_joined byte piece [] lacks = rw append-nil (one_piece byte piece lacks.0)
+pieces_of_joined byte piece (next ∷ pieces) lacks =
+    piece_first byte piece (next ++ flat_map (set_off byte) pieces) lacks.0 ∙ ap (λ (l : List (List ℕ)). piece ∷ l) (pieces_of_joined byte next pieces lacks.1)
 
 pub words_of_joined : (word : List ℕ) (words : List (List ℕ)) → AllByRecursion (Lacks 32) (word ∷ words) → words_of (joined (word ∷ words)) ≡ word ∷ words
-words_of_joined word [] lacks = rw append-nil (one_word word lacks.0)
-words_of_joined word (next ∷ words) lacks =
-    word_first word (next ++ flat_map spaced words) lacks.0 ∙ ap (λ (l : List (List ℕ)). word ∷ l) (words_of_joined next words lacks.1)
+words_of_joined word words lacks = pieces_of_joined 32 word words lacks
 
--- words in front of which a byte more stands
-joined_onto : (b : ℕ) (words : List (List ℕ)) → joined (onto_first b words) ≡ b ∷ joined words
-joined_onto b [] = refl
-joined_onto b (word ∷ words) = refl
+-- pieces in front of which a byte more stands
+joined_onto : (byte b : ℕ) (pieces : List (List ℕ)) → joined_by byte (onto_first b pieces) ≡ b ∷ joined_by byte pieces
+joined_onto byte b [] = refl
+joined_onto byte b (piece ∷ pieces) = refl
 
-spaced_words : (rest : List ℕ) (place : Option ℕ) → flat_map spaced (words_at rest place) ≡ 32 ∷ joined (words_at rest place)
-spaced_words rest None = refl
-spaced_words rest (Some k) = refl
+set_off_pieces : (byte : ℕ) (rest : List ℕ) (place : Option ℕ) → flat_map (set_off byte) (pieces_at byte rest place) ≡ byte ∷ joined_by byte (pieces_at byte rest place)
+set_off_pieces byte rest None = refl
+set_off_pieces byte rest (Some k) = refl
 
-joined_test : (b : ℕ) (rest : List ℕ) (t : Bool) → (b == 32) ≡ t → joined (words_of rest) ≡ rest →
-    joined (if t then [] ∷ words_of rest else onto_first b (words_of rest)) ≡ b ∷ rest
-joined_test b rest true is before =
-    let space : b ≡ 32 = grind arith in
-    ap (λ (ws : List (List ℕ)). flat_map spaced ws) (words_of_at rest) ∙ spaced_words rest (place_of 32 rest)
-    ∙ ap (λ (ws : List (List ℕ)). 32 ∷ joined ws) (sym (words_of_at rest)) ∙ ap (λ (l : List ℕ). 32 ∷ l) before ∙ ap (λ (c : ℕ). c ∷ rest) (sym space)
-joined_test b rest false is before = joined_onto b (words_of rest) ∙ ap (λ (l : List ℕ). b ∷ l) before
+joined_test : (byte b : ℕ) (rest : List ℕ) (t : Bool) → (b == byte) ≡ t → joined_by byte (pieces_of byte rest) ≡ rest →
+    joined_by byte (if t then [] ∷ pieces_of byte rest else onto_first b (pieces_of byte rest)) ≡ b ∷ rest
+joined_test byte b rest true is before =
+    let same : b ≡ byte = grind arith in
+    ap (λ (ps : List (List ℕ)). flat_map (set_off byte) ps) (pieces_of_at byte rest) ∙ set_off_pieces byte rest (place_of byte rest)
+    ∙ ap (λ (ps : List (List ℕ)). byte ∷ joined_by byte ps) (sym (pieces_of_at byte rest)) ∙ ap (λ (l : List ℕ). byte ∷ l) before ∙ ap (λ (c : ℕ). c ∷ rest) (sym same)
+joined_test byte b rest false is before = joined_onto byte b (pieces_of byte rest) ∙ ap (λ (l : List ℕ). b ∷ l) before
+
+pub joined_pieces_of : (byte : ℕ) (line : List ℕ) → joined_by byte (pieces_of byte line) ≡ line
+joined_pieces_of byte [] = refl
+joined_pieces_of byte (b ∷ rest) = joined_test byte b rest (b == byte) refl (joined_pieces_of byte rest)
 
 pub joined_words_of : (line : List ℕ) → joined (words_of line) ≡ line
-joined_words_of [] = refl
-joined_words_of (b ∷ rest) = joined_test b rest (b == 32) refl (joined_words_of rest)
+joined_words_of line = joined_pieces_of 32 line
 
 -- ---- all lines
 

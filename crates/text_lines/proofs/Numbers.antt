@@ -11,9 +11,9 @@ use Rattle.std.proofs.lemmas.Str.Parse.{parse_digits}
 use Rattle.text_lines.specs.declared.fault.TextFault.{TextFault}
 use Rattle.text_lines.specs.declared.fault.TextFault.TheVariants.{Number, Range, Left}
 use Rattle.text_lines.specs.Reading.{is_led, is_decimal, number_of, end_at}
-use Rattle.text_lines.specs.Split.{words_of, place_of}
+use Rattle.text_lines.specs.Split.{pieces_of, place_of}
 use Rattle.text_lines.proofs.Inverse.{own, led_some}
-use Rattle.text_lines.proofs.Places.{words_of_at, words_at}
+use Rattle.text_lines.proofs.Places.{pieces_of_at, pieces_at}
 use Rattle.mrp_types.proofs.TestLemmas.{both}
 
 abbrev pub chosen : ℕ → Bool → Result ℕ TextFault
@@ -47,10 +47,10 @@ is_large word text r e decimal same parse is =
     let of_word = subst (λ (t : List ℕ). ParsesUnsigned 64 10 t r) same parse in
     unparsed word r e decimal is (parse_digits own 64 word r of_word tests.1)
 
-none_of : (bytes : List ℕ) (place : Option ℕ) → end_at (words_at bytes place) ≡ Err Left
-none_of bytes None = refl
-none_of bytes (Some k) = refl
+none_of : (byte : ℕ) (bytes : List ℕ) (place : Option ℕ) → end_at (pieces_at byte bytes place) ≡ Err Left
+none_of byte bytes None = refl
+none_of byte bytes (Some k) = refl
 
--- a line has a word
-pub some_word : (bytes : List ℕ) → end_at (words_of bytes) ≡ Err Left
-some_word bytes = rw (words_of_at bytes) (none_of bytes (place_of 32 bytes))
+-- a text has a piece
+pub some_piece : (byte : ℕ) (bytes : List ℕ) → end_at (pieces_of byte bytes) ≡ Err Left
+some_piece byte bytes = rw (pieces_of_at byte bytes) (none_of byte bytes (place_of byte bytes))

@@ -2,7 +2,7 @@
 use Rattle.std.proofs.Common.{arith, ◌≡◌, ◌≢◌, ◌<◌, ◌≤◌, ℕ, ◌+◌, suc, List, [], ◌∷◌, length, take, drop, get_or, Option, Some, None, refl, sym, ap, ◌∙◌, ◌==◌, if◌then◌else◌, Bool, true, false, add-one, drop-cons}
 use Rattle.std.proofs.lemmas.Grind.{common_steps}
 use Rattle.std.specs.Option.{option_map}
-use Rattle.text_lines.specs.Split.{Line, ended_line, place_of, words_of, onto_first, first_line, onto_line, lines_of, onto_lines}
+use Rattle.text_lines.specs.Split.{Line, ended_line, place_of, pieces_of, onto_first, first_line, onto_line, lines_of, onto_lines}
 
 -- the first line where the first line feed stands at a place
 abbrev pub line_at : List ℕ → Option ℕ → Option (List ℕ × Bool × List ℕ)
@@ -78,23 +78,23 @@ pub first_line_at : (bytes : List ℕ) → first_line bytes ≡ line_at bytes (p
 first_line_at [] = refl
 first_line_at (b ∷ rest) = line_test b rest (b == 10) (first_line_at rest)
 
--- the words where the first space stands at a place
-abbrev pub words_at : List ℕ → Option ℕ → List (List ℕ)
-words_at bytes None = bytes ∷ []
-words_at bytes (Some end) = take end bytes ∷ words_of (drop (end + 1) bytes)
+-- the pieces where the first byte between them stands at a place
+abbrev pub pieces_at : ℕ → List ℕ → Option ℕ → List (List ℕ)
+pieces_at byte bytes None = bytes ∷ []
+pieces_at byte bytes (Some end) = take end bytes ∷ pieces_of byte (drop (end + 1) bytes)
 
-word_step : (b : ℕ) (rest : List ℕ) (place : Option ℕ) → onto_first b (words_at rest place) ≡ words_at (b ∷ rest) (further place)
-word_step b rest None = refl
-word_step b rest (Some k) = rw (add-one, add-one) refl
+piece_step : (byte b : ℕ) (rest : List ℕ) (place : Option ℕ) → onto_first b (pieces_at byte rest place) ≡ pieces_at byte (b ∷ rest) (further place)
+piece_step byte b rest None = refl
+piece_step byte b rest (Some k) = rw (add-one, add-one) refl
 
-word_test : (b : ℕ) (rest : List ℕ) (t : Bool) → words_of rest ≡ words_at rest (place_of 32 rest) →
-    (if t then [] ∷ words_of rest else onto_first b (words_of rest)) ≡ words_at (b ∷ rest) (if t then Some 0 else further (place_of 32 rest))
-word_test b rest true before = refl
-word_test b rest false before = ap (onto_first b) before ∙ word_step b rest (place_of 32 rest)
+piece_test : (byte b : ℕ) (rest : List ℕ) (t : Bool) → pieces_of byte rest ≡ pieces_at byte rest (place_of byte rest) →
+    (if t then [] ∷ pieces_of byte rest else onto_first b (pieces_of byte rest)) ≡ pieces_at byte (b ∷ rest) (if t then Some 0 else further (place_of byte rest))
+piece_test byte b rest true before = refl
+piece_test byte b rest false before = ap (onto_first b) before ∙ piece_step byte b rest (place_of byte rest)
 
-pub words_of_at : (bytes : List ℕ) → words_of bytes ≡ words_at bytes (place_of 32 bytes)
-words_of_at [] = refl
-words_of_at (b ∷ rest) = word_test b rest (b == 32) (words_of_at rest)
+pub pieces_of_at : (byte : ℕ) (bytes : List ℕ) → pieces_of byte bytes ≡ pieces_at byte bytes (place_of byte bytes)
+pieces_of_at byte [] = refl
+pieces_of_at byte (b ∷ rest) = piece_test byte b rest (b == byte) (pieces_of_at byte rest)
 
 -- the lines where the first line is known
 abbrev pub lines_at : Option (List ℕ × Bool × List ℕ) → List Line

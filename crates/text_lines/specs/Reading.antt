@@ -67,6 +67,11 @@ abbrev pub word_at : List (List ℕ) → Result (List ℕ × List (List ℕ)) Te
 word_at [] = Err Word
 word_at (word ∷ words) = Ok (word, words)
 
+-- whether this is the next word
+abbrev pub is_first : List ℕ → List (List ℕ) → Bool
+is_first word [] = false
+is_first word (next ∷ words) = bytes_eq next word
+
 -- this very word
 abbrev pub keyword_at : List ℕ → List (List ℕ) → Result (Unit {0} × List (List ℕ)) TextFault
 keyword_at keyword words = do

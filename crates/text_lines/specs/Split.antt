@@ -13,15 +13,19 @@ abbrev pub onto_first : ℕ → List (List ℕ) → List (List ℕ)
 onto_first b [] = (b ∷ []) ∷ []
 onto_first b (word ∷ words) = (b ∷ word) ∷ words
 
--- what stands between single spaces; a word may be empty
-abbrev pub words_of : List ℕ → List (List ℕ)
-words_of [] = [] ∷ []
-words_of (b ∷ rest) = if b == 32 then [] ∷ words_of rest else onto_first b (words_of rest)
+-- what stands between the bytes that are this one; a piece may be empty
+abbrev pub pieces_of : ℕ → List ℕ → List (List ℕ)
+pieces_of byte [] = [] ∷ []
+pieces_of byte (b ∷ rest) = if b == byte then [] ∷ pieces_of byte rest else onto_first b (pieces_of byte rest)
 
--- the words of what is left, none where nothing is left
-abbrev pub words_left : Option (List ℕ) → List (List ℕ)
-words_left None = []
-words_left (Some rest) = words_of rest
+-- what stands between single spaces
+abbrev pub words_of : List ℕ → List (List ℕ)
+words_of line = pieces_of 32 line
+
+-- the pieces of what is left, none where nothing is left
+abbrev pub pieces_left : ℕ → Option (List ℕ) → List (List ℕ)
+pieces_left byte None = []
+pieces_left byte (Some rest) = pieces_of byte rest
 
 -- a line without its line feed, and whether a line feed ends it
 pub record Line : Type 0 where

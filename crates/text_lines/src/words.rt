@@ -4,8 +4,8 @@ ghost use Rattle.std.specs.Prelude.{◌≡◌, ◌≤◌, ◌∷◌, IfOk};
 ghost use Rattle.std.specs.Option.{option_copied};
 ghost use Rattle.std.specs.List.{list_all};
 ghost use Rattle.std.specs.Char.{is_ascii_digit};
-ghost use Rattle.text_lines.specs.Split.{words_of, words_left};
-ghost use Rattle.text_lines.specs.Reading.{Gives, Reads, Says, word_at, keyword_at, number_at, number_within, hex_at, end_at, is_led, is_decimal, number_of, hex_of, text_fault};
+ghost use Rattle.text_lines.specs.Split.{pieces_of, words_of, pieces_left};
+ghost use Rattle.text_lines.specs.Reading.{Gives, Reads, Says, word_at, is_first, keyword_at, number_at, number_within, hex_at, end_at, is_led, is_decimal, number_of, hex_of, text_fault};
 
 use crate::{TextFault, find_byte};
 use hex::FromHexError;
@@ -17,6 +17,7 @@ use std::marker::Model;
 /// left.
 #[derive(Drop)]
 pub struct Words<'a> {
+    separator: u8,
     rest: Option<&'a [u8]>,
 }
 
@@ -26,9 +27,9 @@ impl<'a> Model for Words<'a> {
     ghost Value = { List (List ℕ) };
 
     ghost use Rattle.std.specs.Option.{option_copied};
-    ghost use Rattle.text_lines.specs.Split.{words_left};
+    ghost use Rattle.text_lines.specs.Split.{pieces_left};
 
-    ghost view = { λ w. words_left (option_copied w.rest) };
+    ghost view = { λ w. pieces_left w.separator (option_copied w.rest) };
 }
 
 impl<'a> Words<'a> {
@@ -36,7 +37,21 @@ impl<'a> Words<'a> {
     pub fn new(line: &'a [u8]) -> Self
         ensures { result ≡ words_of line.now }
     {
-        Words { rest: Some(line) }
+        Words {
+            separator: b' ',
+            rest: Some(line),
+        }
+    }
+
+    /// All pieces of a text that this byte separates, to be read as words are. Each stretch between is one, also an
+    /// empty one.
+    pub fn split(text: &'a [u8], separator: u8) -> Self
+        ensures { result ≡ pieces_of separator text.now }
+    {
+        Words {
+            separator,
+            rest: Some(text),
+        }
     }
 
     /// The next word. `Word` where none is left.
@@ -46,9 +61,19 @@ impl<'a> Words<'a> {
         let Some(rest) = self.rest else {
             return Err(TextFault::Word);
         };
-        let (word, left) = split_word(rest);
+        let (word, left) = split_first(rest, self.separator);
         self.rest = left;
         Ok(word)
+    }
+
+    /// Whether the next word is this one. It stays the next one.
+    pub fn is_next(&self, word: &[u8]) -> bool
+        ensures { result ≡ is_first word.now self.now }
+    {
+        match self.rest {
+            Some(rest) => split_first(rest, self.separator).0 == word,
+            None => false,
+        }
     }
 
     /// The next word, which has to be this one. `Word` where it is another, or none is left.
@@ -104,11 +129,11 @@ impl<'a> Words<'a> {
     }
 }
 
-// The first word, and what is left after the space behind it.
-fn split_word(rest: &[u8]) -> (&[u8], Option<&[u8]>)
-    ensures { result.0.now ∷ words_left (option_copied result.1) ≡ words_of rest.now }
+// The first piece, and what is left after the separator behind it.
+fn split_first(rest: &[u8], separator: u8) -> (&[u8], Option<&[u8]>)
+    ensures { result.0.now ∷ pieces_left separator (option_copied result.1) ≡ pieces_of separator rest.now }
 {
-    let Some(end) = find_byte(rest, b' ') else {
+    let Some(end) = find_byte(rest, separator) else {
         return (rest, None);
     };
     (&rest[..end], Some(&rest[end + 1..]))
@@ -142,7 +167,9 @@ fn has_decimal_form(word: &[u8]) -> bool
     leads_well(word) && are_digits(word)
 }
 
-fn number_of_word(word: &[u8]) -> Result<u64, TextFault>
+/// The number that a word spells: `Number` where it is no decimal without leading zeros, `Range` where it is one of 2^64 or
+/// more.
+pub fn number_of_word(word: &[u8]) -> Result<u64, TextFault>
     ensures { result ≡ number_of word.now }
 {
     let Ok(text) = str::from_utf8(word) else {
@@ -157,7 +184,9 @@ fn number_of_word(word: &[u8]) -> Result<u64, TextFault>
     }
 }
 
-fn bytes_of_word(alloc: Global, word: &[u8]) -> Result<Octets, TextFault>
+/// The bytes that a word spells in lower-case hexadecimal, `-` for none. `Hex` where it is anything else, the empty word
+/// too.
+pub fn bytes_of_word(alloc: Global, word: &[u8]) -> Result<Octets, TextFault>
     ensures { Says (λ x. x) (hex_of word.now) result }
 {
     if word == b"-".as_slice() {

@@ -1,34 +1,30 @@
--- What a word says is what it spells, and its spelling has no space.
-use Rattle.std.proofs.Common.{arith, lit<, ◌≡◌, ◌≤◌, ◌<◌, ℕ, ◌^◌, List, [], ◌∷◌, length, Option, Some, None, refl, sym, ap, ◌∙◌, subst, nat_lt, nat_le, ◌==◌, ◌&&◌, if◌then◌else◌, Bool, true, false, codes, Ok, Err, IsTrue}
+-- Each kind of word is read as it is spelled, and what is read is spelled so.
+use Rattle.std.proofs.Common.{arith, lit<, ◌≡◌, ◌≢◌, ◌≤◌, ◌<◌, ℕ, ◌^◌, List, [], ◌∷◌, ◌++◌, length, Option, Some, None, refl, sym, ap, ◌∙◌, subst, nat_lt, nat_le, ◌==◌, ◌&&◌, if◌then◌else◌, Bool, true, false, codes, Ok, Err, IsTrue}
+use Rattle.std.proofs.Math.Path.{ap₂}
 use Rattle.std.proofs.lemmas.Grind.{common_steps}
 use Rattle.std.proofs.lemmas.Slice.Eq.{bytes_eq-Decides}
-use Rattle.std.proofs.lemmas.Fmt.{decimal_is_IsNumeral}
-use Rattle.std.specs.Prelude.{Result}
+use Rattle.std.specs.Prelude.{Result, map}
+use Rattle.std.specs.List.{AllByRecursion, flat_map}
 use Rattle.std.specs.Option.{option_map, option_and_then}
 use Rattle.std.specs.Str.{bytes_eq}
-use Rattle.std.specs.Str.Parse.{digits_value}
 use Rattle.std.specs.Fmt.{decimal}
-use Rattle.hex.specs.Hex.{encode_lower, decode_of, decode_pairs, IsBytes}
-use Rattle.hex.specs.declared.error.FromHexError.{FromHexError}
-use Rattle.hex.proofs.HexLemmas.{decode_of-encode_lower, decode_of-ok}
-use Rattle.text_lines.proofs.Laws.{Lacks}
-use Rattle.text_lines.proofs.Inverse.{lacks_decimal, lacks_encoded}
+use Rattle.hex.specs.Hex.{encode_lower, decode_pairs, IsBytes}
+use Rattle.text_lines.specs.Split.{pieces_of, onto_first}
+use Rattle.text_lines.specs.Text.{set_off, joined_by, hex_text}
+use Rattle.text_lines.specs.Reading.{number_of as decimal_of, hex_of}
+use Rattle.text_lines.specs.declared.fault.TextFault.{TextFault}
+use Rattle.text_lines.proofs.Laws.{Lacks, pieces_of_joined, joined_pieces_of}
+use Rattle.text_lines.proofs.Inverse.{number_of_decimal, decimal_of_number, hex_of_text, text_of_hex, lacks_decimal, lacks_encoded}
 use Rattle.command_codec.specs.Grammar.{batch_at}
 use Rattle.command_codec.specs.Parts.{spells_batch}
-use Rattle.mrp_types.proofs.TestLemmas.{both, below, some_is}
+use Rattle.mrp_types.proofs.TestLemmas.{both, below as is_below, some_is}
 use Rattle.mrp_types.specs.declared.id.Party.{Party}
 use Rattle.mrp_types.specs.declared.id.Party.TheVariants.{Node, Client}
 use Rattle.mrp_types.specs.declared.value.Value.{Value}
 use Rattle.mrp_types.specs.declared.value.Value.TheVariants.{Skip, Batch}
-use Rattle.transcript.specs.Spelling.{value_text, party_text, IsValue, IsParty}
-use Rattle.transcript.specs.Fields.{number_of, party_of, spelled_by, bytes_of, batch_value, value_of}
-
--- A kind of field: values that may be are read as they are spelled, what is read is spelled so and may be, and no
--- spelling has a space.
-pub record Field {V : Type 0} (said_by : List ℕ → Option V) (spell : V → List ℕ) (Is : V → Type 0) : Type 0 where
-  pub read : (v : V) → Is v → said_by (spell v) ≡ Some v
-  pub was : (word : List ℕ) (v : V) → said_by word ≡ Some v → (word ≡ spell v) × Is v
-  pub lacks : (v : V) → Is v → Lacks 32 (spell v)
+use Rattle.transcript.specs.Spelling.{value_text, tuple_text, party_text, IsCount, IsValue, AreBytes, AreInstances, IsParty}
+use Rattle.transcript.specs.Fields.{below, number_of, numbers_of, tuple_of, party_of, some_bytes, bytes_of, batch_value, value_of}
+use Rattle.transcript.proofs.WordLaws.{Field}
 
 -- where a test chose a value, it held
 then_was : {A : Type 0} (t : Bool) (x y : A) → (if t then Some x else None) ≡ Some y → (t ≡ true) × (x ≡ y)
@@ -45,20 +41,19 @@ number_read : (limit n : ℕ) → limit ≤ 2 ^ 64 → n < limit → number_of l
 unfolding number_of
 number_read limit n most less =
     let fits : n < 2 ^ 64 = omega (arith, most, less) in
-    let value : digits_value 10 (decimal n) ≡ n = (decimal_is_IsNumeral n fits).1 in
     let small : nat_lt n limit ≡ true = grind arith in
-    let same : bytes_eq (decimal n) (decimal n) ≡ true = (bytes_eq-Decides (decimal n) (decimal n)).1 refl in
-    rw (value, small, same) refl
+    rw (number_of_decimal n fits, small) refl
+
+number_found : (limit : ℕ) (word : List ℕ) (n : ℕ) (read : Result ℕ TextFault) → decimal_of word ≡ read → below limit read ≡ Some n → (word ≡ decimal n) × (n < limit)
+number_found limit word n (Ok k) is h =
+    let was = then_was (nat_lt k limit) k n h in
+    let small : k < limit = is_below k limit was.0 in
+    ((decimal_of_number word k is).0 ∙ ap decimal was.1, subst (λ (i : ℕ). i < limit) was.1 small)
+number_found limit word n (Err fault) is h = absurd (grind arith)
 
 number_was : (limit : ℕ) (word : List ℕ) (n : ℕ) → number_of limit word ≡ Some n → (word ≡ decimal n) × (n < limit)
 unfolding number_of
-number_was limit word n h =
-    let v = digits_value 10 word in
-    let was = then_was (nat_lt v limit && bytes_eq (decimal v) word) v n h in
-    let tests = both (nat_lt v limit) (bytes_eq (decimal v) word) was.0 in
-    let is : v ≡ n = was.1 in
-    let small : v < limit = below v limit tests.0 in
-    (sym ((bytes_eq-Decides (decimal v) word).0 tests.1) ∙ ap decimal is, subst (λ (k : ℕ). k < limit) is small)
+number_was limit word n h = number_found limit word n (decimal_of word) refl h
 
 pub number : (limit : ℕ) → limit ≤ 2 ^ 64 → Field (number_of limit) decimal (λ n. n < limit)
 number limit most = record {
@@ -72,6 +67,104 @@ id = number 256 (omega arith)
 
 pub count : Field (number_of (2 ^ 64)) decimal (λ n. n < 2 ^ 64)
 count = number (2 ^ 64) (omega arith)
+
+-- ---- tuples
+
+numbers_read : (tuple : List ℕ) → AllByRecursion IsCount tuple → numbers_of (map decimal tuple) ≡ Some tuple
+numbers_read [] are = refl
+numbers_read (n ∷ tuple) are = rw (count.read n are.0, numbers_read tuple are.1) refl
+
+-- a number before the others
+number_first : (piece : List ℕ) (pieces : List (List ℕ)) (found : Option ℕ) (others : Option (List ℕ)) (tuple : List ℕ) → number_of (2 ^ 64) piece ≡ found → numbers_of pieces ≡ others
+    → ((ns : List ℕ) → numbers_of pieces ≡ Some ns → (pieces ≡ map decimal ns) × AllByRecursion IsCount ns)
+    → option_and_then (λ n. option_map (λ (ns : List ℕ). n ∷ ns) others) found ≡ Some tuple → (piece ∷ pieces ≡ map decimal tuple) × AllByRecursion IsCount tuple
+number_first piece pieces None others tuple one more was h = absurd (grind arith)
+number_first piece pieces (Some n) None tuple one more was h = absurd (grind arith)
+number_first piece pieces (Some n) (Some ns) tuple one more was h =
+    let first = count.was piece n one in
+    let rest = was ns more in
+    let same : n ∷ ns ≡ tuple = some_is (n ∷ ns) tuple h in
+    (ap₂ (λ (p : List ℕ) (ps : List (List ℕ)). p ∷ ps) first.0 rest.0 ∙ ap (map decimal) same, subst (λ (t : List ℕ). AllByRecursion IsCount t) same (first.1, rest.1))
+
+numbers_were : (pieces : List (List ℕ)) (tuple : List ℕ) → numbers_of pieces ≡ Some tuple → (pieces ≡ map decimal tuple) × AllByRecursion IsCount tuple
+numbers_were [] tuple h =
+    let same : [] ≡ tuple = some_is [] tuple h in
+    subst (λ (t : List ℕ). ([] ≡ map decimal t) × AllByRecursion IsCount t) same (refl, tt)
+numbers_were (piece ∷ pieces) tuple h = number_first piece pieces (number_of (2 ^ 64) piece) (numbers_of pieces) tuple refl refl (λ ns is. numbers_were pieces ns is) h
+
+lacks_numbers : (byte : ℕ) → byte < 48 → (tuple : List ℕ) → AllByRecursion IsCount tuple → AllByRecursion (Lacks byte) (map decimal tuple)
+lacks_numbers byte low [] are = tt
+lacks_numbers byte low (n ∷ tuple) are = (lacks_decimal byte n low are.0, lacks_numbers byte low tuple are.1)
+
+lacks_after : (byte : ℕ) (first second : List ℕ) → Lacks byte first → Lacks byte second → Lacks byte (first ++ second)
+lacks_after byte [] second a b = b
+lacks_after byte (c ∷ first) second a b = (a.0, lacks_after byte first second a.1 b)
+
+lacks_set_off : (byte comma : ℕ) → comma ≢ byte → (pieces : List (List ℕ)) → AllByRecursion (Lacks byte) pieces → Lacks byte (flat_map (set_off comma) pieces)
+lacks_set_off byte comma apart [] are = tt
+lacks_set_off byte comma apart (piece ∷ pieces) are = (apart, lacks_after byte piece (flat_map (set_off comma) pieces) are.0 (lacks_set_off byte comma apart pieces are.1))
+
+lacks_joined : (byte comma : ℕ) → comma ≢ byte → (pieces : List (List ℕ)) → AllByRecursion (Lacks byte) pieces → Lacks byte (joined_by comma pieces)
+lacks_joined byte comma apart [] are = tt
+lacks_joined byte comma apart (piece ∷ pieces) are = lacks_after byte piece (flat_map (set_off comma) pieces) are.0 (lacks_set_off byte comma apart pieces are.1)
+
+pieces_of_tuple : (tuple : List ℕ) → AreInstances tuple → pieces_of 44 (tuple_text tuple) ≡ map decimal tuple
+pieces_of_tuple [] are = absurd (omega (arith, are.1.0))
+pieces_of_tuple (n ∷ tuple) are = pieces_of_joined 44 (decimal n) (map decimal tuple) (lacks_numbers 44 (lit< tt) (n ∷ tuple) are.0)
+
+as_many : (tuple : List ℕ) → length (map decimal tuple) ≡ length tuple
+as_many tuple = grind (arith, common_steps)
+
+tuple_read : (tuple : List ℕ) → AreInstances tuple → tuple_of (tuple_text tuple) ≡ Some tuple
+unfolding tuple_of
+tuple_read tuple are =
+    let few : length tuple ≤ 16 = are.1.1 in
+    let short : nat_le (length (map decimal tuple)) 16 ≡ true = rw (as_many tuple) (grind (arith, few)) in
+    rw (pieces_of_tuple tuple are, short) (numbers_read tuple are.0)
+
+-- a text has a piece at least
+piece_there : (byte : ℕ) (text : List ℕ) → 1 ≤ length (pieces_of byte text)
+piece_there byte [] = omega arith
+piece_there byte (b ∷ rest) = by (b == byte)
+  where
+    onto : (pieces : List (List ℕ)) → 1 ≤ length (onto_first b pieces)
+    onto [] = omega arith
+    onto (piece ∷ pieces) = grind (arith, common_steps)
+
+    by : (t : Bool) → 1 ≤ length (if t then [] ∷ pieces_of byte rest else onto_first b (pieces_of byte rest))
+    by true = grind (arith, common_steps)
+    by false = onto (pieces_of byte rest)
+
+by_length : (short : Bool) (word tuple : List ℕ) → nat_le (length (pieces_of 44 word)) 16 ≡ short → (if short then numbers_of (pieces_of 44 word) else None) ≡ Some tuple →
+    (word ≡ tuple_text tuple) × AreInstances tuple
+by_length false word tuple is h = absurd (grind arith)
+by_length true word tuple is h =
+    let were = numbers_were (pieces_of 44 word) tuple h in
+    let few : length (pieces_of 44 word) ≤ 16 = grind (arith, is) in
+    let all : length (pieces_of 44 word) ≡ length tuple = ap length were.0 ∙ as_many tuple in
+    let some : 1 ≤ length (pieces_of 44 word) = piece_there 44 word in
+    (sym (joined_pieces_of 44 word) ∙ ap (joined_by 44) were.0, (were.1, (omega (arith, all, some), omega (arith, all, few))))
+
+tuple_was : (word tuple : List ℕ) → tuple_of word ≡ Some tuple → (word ≡ tuple_text tuple) × AreInstances tuple
+unfolding tuple_of
+tuple_was word tuple h = by_length (nat_le (length (pieces_of 44 word)) 16) word tuple refl h
+
+pub tuple : Field tuple_of tuple_text AreInstances
+tuple = record {
+  read = tuple_read;
+  was = tuple_was;
+  lacks = λ tuple are. lacks_joined 32 44 (λ same. omega (arith, same)) (map decimal tuple) (lacks_numbers 32 (lit< tt) tuple are.0);
+}
+
+dash_is_no_tuple : tuple_of (codes "-") ≡ None
+unfolding tuple_of number_of
+dash_is_no_tuple = refl
+
+pub tuple_is_no_dash : (tuple : List ℕ) → AreInstances tuple → bytes_eq (tuple_text tuple) (codes "-") ≡ false
+tuple_is_no_dash tuple are = false_if (bytes_eq (tuple_text tuple) (codes "-")) (λ h.
+    let same : tuple_text tuple ≡ codes "-" = (bytes_eq-Decides (tuple_text tuple) (codes "-")).0 h in
+    let wrong : None ≡ Some tuple = sym dash_is_no_tuple ∙ ap tuple_of (sym same) ∙ tuple_read tuple are in
+    grind (arith, wrong))
 
 -- ---- parties
 
@@ -124,31 +217,23 @@ party_is_no_none party is = false_if (bytes_eq (party_text party) (codes "none")
 
 -- ---- bytes
 
-abbrev pub AreBytes : List ℕ → Type 0
-AreBytes bytes = IsBytes bytes × (1 ≤ length bytes)
-
 bytes_read : (bytes : List ℕ) → AreBytes bytes → bytes_of (encode_lower bytes) ≡ Some bytes
 unfolding bytes_of
 bytes_read [] is = absurd (omega (arith, is.1))
-bytes_read (b ∷ rest) is =
-    let all = b ∷ rest in
-    let same : bytes_eq (encode_lower all) (encode_lower all) ≡ true = (bytes_eq-Decides (encode_lower all) (encode_lower all)).1 refl in
-    rw (decode_of-encode_lower all is.0, same) refl
+bytes_read (b ∷ rest) is = rw (hex_of_text (b ∷ rest) is.0) refl
 
-spelled_was : (read : Result (List ℕ) FromHexError) (word bytes : List ℕ) → decode_of word ≡ read → spelled_by word read ≡ Some bytes →
-    (word ≡ encode_lower bytes) × AreBytes bytes
-spelled_was (Ok []) word bytes is h = absurd (grind arith)
-spelled_was (Ok (b ∷ rest)) word bytes is h =
-    let all = b ∷ rest in
-    let was = then_was (bytes_eq (encode_lower all) word) all bytes h in
-    let text : encode_lower all ≡ word = (bytes_eq-Decides (encode_lower all) word).0 was.0 in
-    let some : 1 ≤ length all = grind (arith, common_steps) in
-    (sym text ∙ ap encode_lower was.1, subst (λ (x : List ℕ). AreBytes x) was.1 ((decode_of-ok word all is).3, some))
-spelled_was (Err e) word bytes is h = absurd (grind arith)
+bytes_found : (word bytes : List ℕ) (read : Result (List ℕ) TextFault) → hex_of word ≡ read → some_bytes read ≡ Some bytes → (word ≡ encode_lower bytes) × AreBytes bytes
+bytes_found word bytes (Ok []) is h = absurd (grind arith)
+bytes_found word bytes (Ok (b ∷ rest)) is h =
+    let was = text_of_hex word (b ∷ rest) is in
+    let same : b ∷ rest ≡ bytes = some_is (b ∷ rest) bytes h in
+    let some : 1 ≤ length (b ∷ rest) = grind (arith, common_steps) in
+    (was.0 ∙ ap encode_lower same, subst (λ (x : List ℕ). AreBytes x) same (was.1, some))
+bytes_found word bytes (Err fault) is h = absurd (grind arith)
 
 bytes_was : (word bytes : List ℕ) → bytes_of word ≡ Some bytes → (word ≡ encode_lower bytes) × AreBytes bytes
 unfolding bytes_of
-bytes_was word bytes h = spelled_was (decode_of word) word bytes refl h
+bytes_was word bytes h = bytes_found word bytes (hex_of word) refl h
 
 pub bytes : Field bytes_of encode_lower AreBytes
 bytes = record { read = bytes_read; was = bytes_was; lacks = λ bytes is. lacks_encoded 32 bytes (lit< tt) is.0 }

@@ -1,271 +1,365 @@
 -- A line is read as it is spelled, and what is read is spelled so.
-use Rattle.std.proofs.Common.{arith, ◌≡◌, ◌<◌, ℕ, ◌^◌, List, [], ◌∷◌, ◌++◌, Option, Some, None, refl, sym, ap, ◌∙◌, subst, nat_lt, ◌==◌, ◌&&◌, if◌then◌else◌, Bool, true, false, codes, Ok, Err}
-use Rattle.std.proofs.Math.Path.{ap₂}
-use Rattle.std.proofs.lemmas.Slice.Eq.{bytes_eq-Decides}
+use Rattle.std.proofs.Common.{arith, ◌≡◌, ◌<◌, ℕ, ◌^◌, List, [], ◌∷◌, ◌++◌, Option, Some, None, refl, sym, ap, ◌∙◌, subst, ◌==◌, if◌then◌else◌, Bool, true, false, codes, Ok, Err, append-nil}
 use Rattle.std.specs.Prelude.{Result}
 use Rattle.std.specs.List.{AllByRecursion}
-use Rattle.std.specs.Option.{ok_or}
 use Rattle.std.specs.Result.{result_ok}
-use Rattle.std.specs.Str.{bytes_eq}
 use Rattle.std.specs.Fmt.{decimal}
+use Rattle.hex.specs.Hex.{encode_lower}
+use Rattle.mrp_types.specs.declared.id.Party.{Party}
+use Rattle.mrp_types.specs.declared.value.Value.{Value}
+use Rattle.mrp_types.proofs.TestLemmas.{some_is}
 use Rattle.text_lines.specs.Split.{words_of}
 use Rattle.text_lines.specs.Text.{joined}
+use Rattle.text_lines.specs.Reading.{◌>>=◌}
+use Rattle.text_lines.proofs.Inverse.{bound}
 use Rattle.text_lines.proofs.Laws.{Lacks, words_of_joined, joined_words_of}
-use Rattle.mrp_types.proofs.TestLemmas.{both, some_is}
+use Rattle.transcript.specs.declared.fault.LineKind.{LineKind}
+use Rattle.transcript.specs.declared.fault.LineKind.TheVariants as kind
 use Rattle.transcript.specs.declared.line.Line.{Line}
-use Rattle.transcript.specs.declared.line.Line.TheVariants.{Learn, Deliver, Frame, End}
+use Rattle.transcript.specs.declared.line.Line.TheVariants.{Learn, Deliver, Reply, Answer, Busy, Begin, Chose, Restore, Saved, Trim, Refuse, BallotLimit, InstanceLimit, AttemptLimit, Down, Up, State, Frame, End}
+use Rattle.transcript.specs.declared.line.Cause.{Cause}
+use Rattle.transcript.specs.declared.line.Cause.TheVariants.{Crash, Disk, Full}
+use Rattle.transcript.specs.declared.kinds.Limit.{Limit}
+use Rattle.transcript.specs.declared.kinds.Limit.TheVariants.{Ballot as OfBallot, Instance as OfInstance, Attempt as OfAttempt}
+use Rattle.transcript.specs.declared.line.ShownState.{ShownState}
 use Rattle.transcript.specs.declared.line.ShownFrame.{ShownFrame}
-use Rattle.transcript.specs.Spelling.{shown_words, line_words, line_bytes, IsShown, IsLine}
-use Rattle.transcript.specs.Fields.{party_of, bytes_of, value_of}
-use Rattle.transcript.specs.Reading.{Kinds, ◌>>=◌, field_at, id_at, count_at, end_at, learn_of, deliver_of, shown_from, shown_of, frame_of, end_of, line_in, onto_text, text_in, line_at, one_kind, line_of}
-use Rattle.transcript.proofs.FieldLaws.{Field, id, count, party, bytes, value, party_is_no_none}
+use Rattle.transcript.specs.Spelling.{value_text, tuple_text, party_text, cause_text, state_words, frame_words, line_words, line_bytes, IsId, IsCount, IsValue, AreBytes, AreInstances, IsParty, IsShownState, IsShownFrame, IsLine}
+use Rattle.transcript.specs.Words.{Reader, both, shown, given, unless, by_key, end_at}
+use Rattle.transcript.specs.Reading.{id_at, count_at, tuple_at, hex_at, value_at, party_at, learn_at, deliver_at, reply_at, answer_at, busy_at, begin_at, chose_at, restore_at, saved_at, trim_at, refuse_at, limit_line, limits, limit_of, limit_at, causes, cause_at, down_at, up_at, state_of, state_at, frame_of, frame_at, last_at, kinds_of_nodes, kinds_of_recovery, kinds, kind_at, line_in, onto_text, text_in, line_of_text, line_at, line_of}
+use Rattle.transcript.proofs.FieldLaws.{id, count, tuple, tuple_is_no_dash, party, party_is_no_none, bytes, value}
+use Rattle.transcript.proofs.FieldLaws as field
+use Rattle.transcript.proofs.WordLaws.{Words, Took, Viewed, Entry, AreEntries, done, done_is, alone, spell_both, IsBoth, one_words, both_words, viewed_was, given_was, keyed_was, unless_was, no_space, lacks_space}
 
--- ---- steps of reading
+-- ---- fields
 
--- a step that gave something had something to go on
-bound : {A B E : Type 0} (r : Result A E) (f : A → Result B E) (y : B) → (r >>= f) ≡ Ok y → (x : A) × (r ≡ Ok x) × (f x ≡ Ok y)
-bound (Ok x) f y h = (x, refl, h)
-bound (Err e) f y h = absurd cc
+ids : Words id_at (alone decimal) IsId
+ids = one_words _ _ _ id kind.Number
 
-abbrev pub given : {A E : Type 0} → Kinds E → A → Result A E
-given kinds x = Ok x
+counts : Words count_at (alone decimal) IsCount
+counts = one_words _ _ _ count kind.Number
 
-given_is : {A E : Type 0} (kinds : Kinds E) (x y : A) → given kinds x ≡ given kinds y → x ≡ y
-given_is kinds x y h = cc
+tuples : Words tuple_at (alone tuple_text) AreInstances
+tuples = one_words _ _ _ tuple kind.Number
 
--- a word in front of equal words
-onto : (word : List ℕ) {a b : List (List ℕ)} → a ≡ b → word ∷ a ≡ word ∷ b
-onto word h = ap (λ (words : List (List ℕ)). word ∷ words) h
+hexes : Words hex_at (alone encode_lower) AreBytes
+hexes = one_words _ _ _ bytes kind.Hex
 
--- what a field's word was
-record FieldWas {V : Type 0} (spell : V → List ℕ) (Is : V → Type 0) (words : List (List ℕ)) (x : V × List (List ℕ)) : Type 0 where
-  pub spelled : words ≡ spell x.0 ∷ x.1
-  pub is : Is x.0
+values : Words value_at (alone value_text) IsValue
+values = one_words _ _ _ value kind.Hex
 
-ok_or_some : {V E : Type 0} (o : Option V) (fault : E) (v : V) → ok_or o fault ≡ Ok v → o ≡ Some v
-ok_or_some (Some x) fault v h = cc
-ok_or_some None fault v h = absurd cc
+parties : Words party_at (alone party_text) IsParty
+parties = one_words _ _ _ party kind.Number
 
-field_was : {E V : Type 0} {said_by : List ℕ → Option V} {spell : V → List ℕ} {Is : V → Type 0} (field : Field said_by spell Is)
-    (kinds : Kinds E) (fault : E) (words : List (List ℕ)) (x : V × List (List ℕ)) → field_at kinds fault said_by words ≡ Ok x → FieldWas spell Is words x
-field_was field kinds fault [] x h = absurd cc
-field_was {said_by = said_by} {spell = spell} {Is = Is} field kinds fault (word ∷ words) x h =
-    let one = bound (ok_or (said_by word) fault) _ x h in
-    let v = one.0 in
-    let was = field.was word v (ok_or_some (said_by word) fault v one.1) in
-    subst (λ y. FieldWas spell Is (word ∷ words) y) (given_is kinds (v, words) x one.2) (record {
-      spelled = ap (λ (w : List ℕ). w ∷ words) was.0;
-      is = was.1;
-    })
+two : {A B : Type 0} {first : Reader A} {second : Reader B} {spell : A → List (List ℕ)} {tell : B → List (List ℕ)} {Is : A → Type 0} {Are : B → Type 0}
+    → Words first spell Is → Words second tell Are → Words (both first second) (spell_both spell tell) (IsBoth Is Are)
+two {first = first} {second = second} {spell = spell} {tell = tell} {Is = Is} {Are = Are} a b = both_words first second spell tell Is Are a b
 
--- what stands behind a field's word
-ahead : {V : Type 0} {spell : V → List ℕ} {Is : V → Type 0} {words : List (List ℕ)} {x : V × List (List ℕ)} {rest : List (List ℕ)} →
-    FieldWas spell Is words x → x.1 ≡ rest → words ≡ spell x.0 ∷ rest
-ahead {spell = spell} {x = x} was h = was.spelled ∙ onto (spell x.0) h
+-- ---- parts of lines
 
-id_was : {E : Type 0} (kinds : Kinds E) (words : List (List ℕ)) (x : ℕ × List (List ℕ)) → id_at kinds words ≡ Ok x → FieldWas decimal (λ n. n < 256) words x
-id_was kinds words x h = field_was id kinds kinds.number words x h
+abbrev pub limit_words : Limit → List (List ℕ)
+limit_words (OfBallot ring) = codes "ballot" ∷ decimal ring ∷ []
+limit_words (OfInstance ring) = codes "instance" ∷ decimal ring ∷ []
+limit_words OfAttempt = codes "attempt" ∷ []
 
-count_was : {E : Type 0} (kinds : Kinds E) (words : List (List ℕ)) (x : ℕ × List (List ℕ)) → count_at kinds words ≡ Ok x → FieldWas decimal (λ n. n < 2 ^ 64) words x
-count_was kinds words x h = field_was count kinds kinds.number words x h
+abbrev pub IsLimit : Limit → Type 0
+IsLimit (OfBallot ring) = IsId ring
+IsLimit (OfInstance ring) = IsId ring
+IsLimit OfAttempt = Unit {0}
 
-end_was : {E : Type 0} (kinds : Kinds E) (words : List (List ℕ)) (x : Unit {0}) → end_at kinds words ≡ Ok x → words ≡ []
-end_was kinds [] x h = refl
-end_was kinds (word ∷ words) x h = absurd cc
+limit_read : (limit : Limit) (rest : List (List ℕ)) → IsLimit limit → limit_of (limit_words limit ++ rest) ≡ Ok (limit, rest)
+unfolding limit_of
+limit_read (OfBallot ring) rest is = rw (ids.read ring rest is) refl
+limit_read (OfInstance ring) rest is = rw (ids.read ring rest is) refl
+limit_read OfAttempt rest is = refl
 
--- ---- what is spelled is read
+limit_entries : AreEntries limit_words IsLimit limits
+limit_entries = (
+  viewed_was (codes "ballot" ∷ []) id_at (alone decimal) IsId OfBallot limit_words IsLimit ids (record { spelled = λ n. refl; is = λ n is. is }),
+  (
+    viewed_was (codes "instance" ∷ []) id_at (alone decimal) IsId OfInstance limit_words IsLimit ids (record { spelled = λ n. refl; is = λ n is. is }),
+    (given_was (codes "attempt" ∷ []) OfAttempt limit_words IsLimit refl tt, tt),
+  ),
+)
 
-shown_read : {E : Type 0} (kinds : Kinds E) (shown : Option ShownFrame) → IsShown shown → shown_of kinds (shown_words shown) ≡ Ok shown
-unfolding shown_of shown_from
-shown_read kinds None is = refl
-shown_read kinds (Some shown) is =
-    rw (party_is_no_none shown.from is.0, party.read shown.from is.0, party.read shown.to is.1, bytes.read shown.bytes (is.2, is.3)) refl
+limit_lacks : (limit : Limit) → IsLimit limit → AllByRecursion (Lacks 32) (limit_words limit)
+unfolding no_space
+limit_lacks (OfBallot ring) is = (lacks_space (codes "ballot") refl, ids.lacks ring is)
+limit_lacks (OfInstance ring) is = (lacks_space (codes "instance") refl, ids.lacks ring is)
+limit_lacks OfAttempt is = (lacks_space (codes "attempt") refl, tt)
 
-pub line_read : {E : Type 0} (kinds : Kinds E) (line : Line) → IsLine line → line_in kinds (line_words line) ≡ Ok line
-unfolding line_in learn_of deliver_of frame_of end_of
-line_read kinds (Learn node ring lo hi decided) is =
-    rw (id.read node.0 is.0, id.read ring.0 is.1, count.read lo is.2, count.read hi is.3, value.read decided is.4) refl
-line_read kinds (Deliver node ring inst) is = rw (id.read node.0 is.0, id.read ring.0 is.1, count.read inst is.2) refl
-line_read kinds (Frame number shown) is = rw (count.read number is.0, shown_read kinds shown is.1) refl
-line_read kinds (End events) is = rw (count.read events is) refl
+limit_was : (words : List (List ℕ)) (x : Limit × List (List ℕ)) → limit_of words ≡ Ok x → Took limit_words IsLimit words x
+unfolding limit_of
+limit_was words x h = keyed_was limit_words IsLimit limits limit_entries words x h
 
--- ---- what is read is spelled so
+limit_law : Words limit_of limit_words IsLimit
+limit_law = record { read = limit_read; was = limit_was; lacks = limit_lacks }
+
+abbrev pub IsCause : Cause → Type 0
+IsCause cause = Unit {0}
+
+abbrev pub cause_words : Cause → List (List ℕ)
+cause_words cause = cause_text cause ∷ []
+
+cause_read : (cause : Cause) (rest : List (List ℕ)) → IsCause cause → cause_at (cause_words cause ++ rest) ≡ Ok (cause, rest)
+unfolding cause_at
+cause_read Crash rest is = refl
+cause_read Disk rest is = refl
+cause_read Full rest is = refl
+
+cause_entries : AreEntries cause_words IsCause causes
+cause_entries = (
+  given_was (codes "crash" ∷ []) Crash cause_words IsCause refl tt,
+  (given_was (codes "disk" ∷ []) Disk cause_words IsCause refl tt, (given_was (codes "full" ∷ []) Full cause_words IsCause refl tt, tt)),
+)
+
+cause_lacks : (cause : Cause) → IsCause cause → AllByRecursion (Lacks 32) (cause_words cause)
+unfolding no_space
+cause_lacks Crash is = (lacks_space (codes "crash") refl, tt)
+cause_lacks Disk is = (lacks_space (codes "disk") refl, tt)
+cause_lacks Full is = (lacks_space (codes "full") refl, tt)
+
+cause_was : (words : List (List ℕ)) (x : Cause × List (List ℕ)) → cause_at words ≡ Ok x → Took cause_words IsCause words x
+unfolding cause_at
+cause_was words x h = keyed_was cause_words IsCause causes cause_entries words x h
+
+cause_law : Words cause_at cause_words IsCause
+cause_law = record { read = cause_read; was = cause_was; lacks = cause_lacks }
+
+state_read : (shown : Option ShownState) (rest : List (List ℕ)) → IsShownState shown → state_of (state_words shown ++ rest) ≡ Ok (shown, rest)
+unfolding state_of
+state_read None rest is = refl
+state_read (Some shown) rest is = rw (tuple_is_no_dash shown.tuple is.0, tuple.read shown.tuple is.0, bytes.read shown.bytes is.1) refl
+
+state_was : (words : List (List ℕ)) (x : Option ShownState × List (List ℕ)) → state_of words ≡ Ok x → Took state_words IsShownState words x
+unfolding state_of
+state_was words x h = unless_was state_words IsShownState (codes "-") None _
+    (given_was (codes "-" ∷ []) None state_words IsShownState refl tt)
+    (viewed_was [] (both tuple_at hex_at) _ _ (λ y. Some (record { tuple = y.0; bytes = y.1 })) state_words IsShownState (two tuples hexes) (record { spelled = λ y. refl; is = λ y is. is }))
+    words x h
+
+state_lacks : (shown : Option ShownState) → IsShownState shown → AllByRecursion (Lacks 32) (state_words shown)
+unfolding no_space
+state_lacks None is = (lacks_space (codes "-") refl, tt)
+state_lacks (Some shown) is = (tuple.lacks shown.tuple is.0, (bytes.lacks shown.bytes is.1, tt))
+
+state_law : Words state_of state_words IsShownState
+state_law = record { read = state_read; was = state_was; lacks = state_lacks }
+
+frame_read : (shown : Option ShownFrame) (rest : List (List ℕ)) → IsShownFrame shown → frame_of (frame_words shown ++ rest) ≡ Ok (shown, rest)
+unfolding frame_of
+frame_read None rest is = refl
+frame_read (Some shown) rest is = rw (party_is_no_none shown.from is.0, party.read shown.from is.0, party.read shown.to is.1.0, bytes.read shown.bytes is.1.1) refl
+
+frame_was : (words : List (List ℕ)) (x : Option ShownFrame × List (List ℕ)) → frame_of words ≡ Ok x → Took frame_words IsShownFrame words x
+unfolding frame_of
+frame_was words x h = unless_was frame_words IsShownFrame (codes "none") None _
+    (given_was (codes "none" ∷ []) None frame_words IsShownFrame refl tt)
+    (viewed_was [] (both party_at (both party_at hex_at)) _ _ (λ y. Some (record { from = y.0; to = y.1.0; bytes = y.1.1 })) frame_words IsShownFrame (two parties (two parties hexes))
+    (record { spelled = λ y. refl; is = λ y is. is }))
+    words x h
+
+frame_lacks : (shown : Option ShownFrame) → IsShownFrame shown → AllByRecursion (Lacks 32) (frame_words shown)
+unfolding no_space
+frame_lacks None is = (lacks_space (codes "none") refl, tt)
+frame_lacks (Some shown) is = (party.lacks shown.from is.0, (party.lacks shown.to is.1.0, (bytes.lacks shown.bytes is.1.1, tt)))
+
+frame_law : Words frame_of frame_words IsShownFrame
+frame_law = record { read = frame_read; was = frame_was; lacks = frame_lacks }
+
+-- ---- the kinds
+
+read_lines : {A : Type 0} (fields : Reader A) (view : A → Line) (spell : A → List (List ℕ)) (Is : A → Type 0) → Words fields spell Is → (a : A) → Is a → shown view fields (spell a) ≡ Ok (view a, [])
+read_lines fields view spell Is law a is =
+    let read : fields (spell a) ≡ Ok (a, []) = sym (ap fields (append-nil (spell a))) ∙ law.read a [] is in
+    rw read refl
+
+pub kind_read : (line : Line) → IsLine line → kind_at (line_words line) ≡ Ok (line, [])
+unfolding kind_at kinds_of_recovery kinds_of_nodes learn_at deliver_at reply_at answer_at busy_at begin_at chose_at restore_at saved_at trim_at refuse_at limit_at down_at up_at state_at frame_at last_at
+kind_read (Learn node ring lo hi decided) is = read_lines _ _ _ _ (two ids (two ids (two counts (two counts values)))) (node.0, (ring.0, (lo, (hi, decided)))) is
+kind_read (Deliver node ring inst) is = read_lines _ _ _ _ (two ids (two ids counts)) (node.0, (ring.0, inst)) is
+kind_read (Reply node ring inst index client seq reply) is =
+    read_lines _ _ _ _ (two ids (two ids (two counts (two counts (two ids (two counts hexes)))))) (node.0, (ring.0, (inst, (index, (client.0, (seq, reply)))))) is
+kind_read (Answer client seq reply) is = read_lines _ _ _ _ (two ids (two counts hexes)) (client.0, (seq, reply)) is
+kind_read (Busy client seq) is = read_lines _ _ _ _ (two ids counts) (client.0, seq) is
+kind_read (Begin node epoch attempt at) is = read_lines _ _ _ _ (two ids (two counts (two counts tuples))) (node.0, (epoch, (attempt, at))) is
+kind_read (Chose node epoch attempt at from) is = read_lines _ _ _ _ (two ids (two counts (two counts (two tuples ids)))) (node.0, (epoch, (attempt, (at, from.0)))) is
+kind_read (Restore node at) is = read_lines _ _ _ _ (two ids tuples) (node.0, at) is
+kind_read (Saved node at) is = read_lines _ _ _ _ (two ids tuples) (node.0, at) is
+kind_read (Trim node ring inst) is = read_lines _ _ _ _ (two ids (two ids counts)) (node.0, (ring.0, inst)) is
+kind_read (Refuse node epoch attempt answered needed) is =
+    read_lines _ _ _ _ (two ids (two counts (two counts (two counts counts)))) (node.0, (epoch, (attempt, (answered, needed)))) is
+kind_read (BallotLimit node ring) is = read_lines _ _ _ _ (two ids limit_law) (node.0, OfBallot ring.0) is
+kind_read (InstanceLimit node ring) is = read_lines _ _ _ _ (two ids limit_law) (node.0, OfInstance ring.0) is
+kind_read (AttemptLimit node) is = read_lines _ _ _ _ (two ids limit_law) (node.0, OfAttempt) is
+kind_read (Down node cause) is = read_lines _ _ _ _ (two ids cause_law) (node.0, cause) is
+kind_read (Up node epoch) is = read_lines _ _ _ _ (two ids counts) (node.0, epoch) is
+kind_read (State node found) is = read_lines _ _ _ _ (two ids state_law) (node.0, found) is
+kind_read (Frame number found) is = read_lines _ _ _ _ (two counts frame_law) (number, found) is
+kind_read (End events) is = read_lines _ _ _ _ counts events is
+
+-- what is read behind a key is spelled with it
+entry : {A : Type 0} (key : List ℕ) {fields : Reader A} {spell : A → List (List ℕ)} {Is : A → Type 0} (view : A → Line) → Words fields spell Is
+    → ((a : A) → key ∷ spell a ≡ line_words (view a)) → ((a : A) → Is a → IsLine (view a)) → Entry line_words IsLine (key ∷ []) (shown view fields)
+entry key {fields = fields} {spell = spell} {Is = Is} view law spelled is =
+    viewed_was (key ∷ []) fields spell Is view line_words IsLine law (record { spelled = spelled; is = is })
+
+limits_spelled : (a : ℕ × Limit) → codes "limit" ∷ spell_both (alone decimal) limit_words a ≡ line_words (limit_line a)
+limits_spelled (node, OfBallot ring) = refl
+limits_spelled (node, OfInstance ring) = refl
+limits_spelled (node, OfAttempt) = refl
+
+limits_are : (a : ℕ × Limit) → IsBoth IsId IsLimit a → IsLine (limit_line a)
+limits_are (node, OfBallot ring) is = is
+limits_are (node, OfInstance ring) is = is
+limits_are (node, OfAttempt) is = is
+
+node_entries : AreEntries line_words IsLine kinds_of_nodes
+unfolding kinds_of_nodes limit_at down_at up_at state_at frame_at
+node_entries = (
+  entry (codes "limit") limit_line (two ids limit_law) limits_spelled limits_are,
+  (
+    entry (codes "down") _ (two ids cause_law) (λ a. refl) (λ a is. is),
+    (
+      entry (codes "up") _ (two ids counts) (λ a. refl) (λ a is. is),
+      (
+        entry (codes "state") _ (two ids state_law) (λ a. refl) (λ a is. is),
+        (
+          entry (codes "frame") _ (two counts frame_law) (λ a. refl) (λ a is. is),
+          tt,
+        ),
+      ),
+    ),
+  ),
+)
+
+recovery_entries : AreEntries line_words IsLine kinds_of_recovery
+unfolding kinds_of_recovery begin_at chose_at restore_at saved_at trim_at refuse_at
+recovery_entries = (
+  entry (codes "begin") _ (two ids (two counts (two counts tuples))) (λ a. refl) (λ a is. is),
+  (
+    entry (codes "chose") _ (two ids (two counts (two counts (two tuples ids)))) (λ a. refl) (λ a is. is),
+    (
+      entry (codes "restore") _ (two ids tuples) (λ a. refl) (λ a is. is),
+      (
+        entry (codes "saved") _ (two ids tuples) (λ a. refl) (λ a is. is),
+        (
+          entry (codes "trim") _ (two ids (two ids counts)) (λ a. refl) (λ a is. is),
+          (
+            entry (codes "refuse") _ (two ids (two counts (two counts (two counts counts)))) (λ a. refl) (λ a is. is),
+            node_entries,
+          ),
+        ),
+      ),
+    ),
+  ),
+)
+
+entries : AreEntries line_words IsLine kinds
+unfolding learn_at deliver_at reply_at answer_at busy_at last_at
+entries = (
+  entry (codes "learn") _ (two ids (two ids (two counts (two counts values)))) (λ a. refl) (λ a is. is),
+  (
+    entry (codes "deliver") _ (two ids (two ids counts)) (λ a. refl) (λ a is. is),
+    (
+      entry (codes "reply") _ (two ids (two ids (two counts (two counts (two ids (two counts hexes)))))) (λ a. refl) (λ a is. is),
+      (
+        entry (codes "answer") _ (two ids (two counts hexes)) (λ a. refl) (λ a is. is),
+        (
+          entry (codes "busy") _ (two ids counts) (λ a. refl) (λ a is. is),
+          (
+            entry (codes "end") _ counts (λ a. refl) (λ a is. is),
+            recovery_entries,
+          ),
+        ),
+      ),
+    ),
+  ),
+)
+
+kind_was : (words : List (List ℕ)) (x : Line × List (List ℕ)) → kind_at words ≡ Ok x → Took line_words IsLine words x
+unfolding kind_at
+kind_was words x h = keyed_was line_words IsLine kinds entries words x h
+
+lacks : (line : Line) → IsLine line → AllByRecursion (Lacks 32) (line_words line)
+unfolding no_space
+lacks (Learn node ring lo hi decided) is = (lacks_space (codes "learn") refl, (two ids (two ids (two counts (two counts values)))).lacks (node.0, (ring.0, (lo, (hi, decided)))) is)
+lacks (Deliver node ring inst) is = (lacks_space (codes "deliver") refl, (two ids (two ids counts)).lacks (node.0, (ring.0, inst)) is)
+lacks (Reply node ring inst index client seq reply) is =
+    (lacks_space (codes "reply") refl, (two ids (two ids (two counts (two counts (two ids (two counts hexes)))))).lacks (node.0, (ring.0, (inst, (index, (client.0, (seq, reply)))))) is)
+lacks (Answer client seq reply) is = (lacks_space (codes "answer") refl, (two ids (two counts hexes)).lacks (client.0, (seq, reply)) is)
+lacks (Busy client seq) is = (lacks_space (codes "busy") refl, (two ids counts).lacks (client.0, seq) is)
+lacks (Begin node epoch attempt at) is = (lacks_space (codes "begin") refl, (two ids (two counts (two counts tuples))).lacks (node.0, (epoch, (attempt, at))) is)
+lacks (Chose node epoch attempt at from) is = (lacks_space (codes "chose") refl, (two ids (two counts (two counts (two tuples ids)))).lacks (node.0, (epoch, (attempt, (at, from.0)))) is)
+lacks (Restore node at) is = (lacks_space (codes "restore") refl, (two ids tuples).lacks (node.0, at) is)
+lacks (Saved node at) is = (lacks_space (codes "saved") refl, (two ids tuples).lacks (node.0, at) is)
+lacks (Trim node ring inst) is = (lacks_space (codes "trim") refl, (two ids (two ids counts)).lacks (node.0, (ring.0, inst)) is)
+lacks (Refuse node epoch attempt answered needed) is =
+    (lacks_space (codes "refuse") refl, (two ids (two counts (two counts (two counts counts)))).lacks (node.0, (epoch, (attempt, (answered, needed)))) is)
+lacks (BallotLimit node ring) is = (lacks_space (codes "limit") refl, (two ids limit_law).lacks (node.0, OfBallot ring.0) is)
+lacks (InstanceLimit node ring) is = (lacks_space (codes "limit") refl, (two ids limit_law).lacks (node.0, OfInstance ring.0) is)
+lacks (AttemptLimit node) is = (lacks_space (codes "limit") refl, (two ids limit_law).lacks (node.0, OfAttempt) is)
+lacks (Down node cause) is = (lacks_space (codes "down") refl, (two ids cause_law).lacks (node.0, cause) is)
+lacks (Up node epoch) is = (lacks_space (codes "up") refl, (two ids counts).lacks (node.0, epoch) is)
+lacks (State node found) is = (lacks_space (codes "state") refl, (two ids state_law).lacks (node.0, found) is)
+lacks (Frame number found) is = (lacks_space (codes "frame") refl, (two counts frame_law).lacks (number, found) is)
+lacks (End events) is = (lacks_space (codes "end") refl, counts.lacks events is)
+
+-- ---- all words of a line
+
+never_none : (line : Line) → IsLine line → line_words line ≡ [] → ⊥
+unfolding kind_at
+never_none line is none =
+    let read = sym (kind_read line is) ∙ ap kind_at none in
+    absurd (wrong read)
+  where
+    wrong : done {A = Line × List (List ℕ)} (line, []) ≡ Err kind.Word → ⊥
+    wrong h = absurd cc
+
+spelled_words : (line : Line) → IsLine line → words_of (joined (line_words line)) ≡ line_words line
+spelled_words line is = by (line_words line) refl (lacks line is)
+  where
+    by : (words : List (List ℕ)) → line_words line ≡ words → AllByRecursion (Lacks 32) words → words_of (joined words) ≡ words
+    by [] e all = absurd (never_none line is e)
+    by (word ∷ words) e all = words_of_joined word words all
+
+line_read : (line : Line) → IsLine line → line_in (line_words line) ≡ Ok line
+line_read line is = rw (kind_read line is) refl
+
+end_was : (words : List (List ℕ)) (x : Unit {0}) → end_at words ≡ Ok x → words ≡ []
+end_was [] x h = refl
+end_was (word ∷ words) x h = absurd cc
 
 -- the words were those of the line, and the line may be
 record Was (words : List (List ℕ)) (line : Line) : Type 0 where
   pub spelled : words ≡ line_words line
   pub is : IsLine line
 
-learn_was : {E : Type 0} (kinds : Kinds E) (words : List (List ℕ)) (line : Line) → learn_of kinds words ≡ Ok line → Was (codes "learn" ∷ words) line
-unfolding learn_of
-learn_was kinds words line h =
-    let one = bound (id_at kinds words) _ line h in
-    let node = one.0 in
-    let two = bound (id_at kinds node.1) _ line one.2 in
-    let ring = two.0 in
-    let three = bound (count_at kinds ring.1) _ line two.2 in
-    let lo = three.0 in
-    let four = bound (count_at kinds lo.1) _ line three.2 in
-    let hi = four.0 in
-    let five = bound (field_at kinds kinds.hex value_of hi.1) _ line four.2 in
-    let decided = five.0 in
-    let six = bound (end_at kinds decided.1) _ line five.2 in
-    let nodes = id_was kinds words node one.1 in
-    let rings = id_was kinds node.1 ring two.1 in
-    let los = count_was kinds ring.1 lo three.1 in
-    let his = count_was kinds lo.1 hi four.1 in
-    let values = field_was value kinds kinds.hex hi.1 decided five.1 in
-    let whole = Learn (record { 0 = node.0 }) (record { 0 = ring.0 }) lo.0 hi.0 decided.0 in
-    subst (λ (l : Line). Was (codes "learn" ∷ words) l) (given_is kinds whole line six.2) (record {
-      spelled = onto (codes "learn") (ahead nodes (ahead rings (ahead los (ahead his (ahead values (end_was kinds decided.1 six.0 six.1))))));
-      is = (nodes.is, rings.is, los.is, his.is, values.is);
+line_was : (words : List (List ℕ)) (line : Line) → line_in words ≡ Ok line → Was words line
+line_was words line h =
+    let step = bound (kind_at words) (λ x. end_at x.1 >>= λ e. done x.0) line h in
+    let x = step.0 in
+    let ended = bound (end_at x.1) (λ e. done x.0) line step.2 in
+    let took = kind_was words x step.1 in
+    subst (λ (l : Line). Was words l) (done_is x.0 line ended.2) (record {
+      spelled = took.spelled ∙ ap (λ (ws : List (List ℕ)). line_words x.0 ++ ws) (end_was x.1 ended.0 ended.1) ∙ append-nil (line_words x.0);
+      is = took.is;
     })
-
-deliver_was : {E : Type 0} (kinds : Kinds E) (words : List (List ℕ)) (line : Line) → deliver_of kinds words ≡ Ok line → Was (codes "deliver" ∷ words) line
-unfolding deliver_of
-deliver_was kinds words line h =
-    let one = bound (id_at kinds words) _ line h in
-    let node = one.0 in
-    let two = bound (id_at kinds node.1) _ line one.2 in
-    let ring = two.0 in
-    let three = bound (count_at kinds ring.1) _ line two.2 in
-    let inst = three.0 in
-    let four = bound (end_at kinds inst.1) _ line three.2 in
-    let nodes = id_was kinds words node one.1 in
-    let rings = id_was kinds node.1 ring two.1 in
-    let insts = count_was kinds ring.1 inst three.1 in
-    let whole = Deliver (record { 0 = node.0 }) (record { 0 = ring.0 }) inst.0 in
-    subst (λ (l : Line). Was (codes "deliver" ∷ words) l) (given_is kinds whole line four.2) (record {
-      spelled = onto (codes "deliver") (ahead nodes (ahead rings (ahead insts (end_was kinds inst.1 four.0 four.1))));
-      is = (nodes.is, rings.is, insts.is);
-    })
-
-record ShownWas (words : List (List ℕ)) (shown : Option ShownFrame) : Type 0 where
-  pub spelled : words ≡ shown_words shown
-  pub is : IsShown shown
-
-shown_from_was : {E : Type 0} (kinds : Kinds E) (words : List (List ℕ)) (shown : ShownFrame) → shown_from kinds words ≡ Ok shown → ShownWas words (Some shown)
-unfolding shown_from
-shown_from_was kinds words shown h =
-    let one = bound (field_at kinds kinds.number party_of words) _ shown h in
-    let from = one.0 in
-    let two = bound (field_at kinds kinds.number party_of from.1) _ shown one.2 in
-    let to = two.0 in
-    let three = bound (field_at kinds kinds.hex bytes_of to.1) _ shown two.2 in
-    let frame = three.0 in
-    let four = bound (end_at kinds frame.1) _ shown three.2 in
-    let froms = field_was party kinds kinds.number words from one.1 in
-    let tos = field_was party kinds kinds.number from.1 to two.1 in
-    let frames = field_was bytes kinds kinds.hex to.1 frame three.1 in
-    let whole : ShownFrame = record { from = from.0; to = to.0; bytes = frame.0 } in
-    subst (λ (s : ShownFrame). ShownWas words (Some s)) (given_is kinds whole shown four.2) (record {
-      spelled = ahead froms (ahead tos (ahead frames (end_was kinds frame.1 four.0 four.1)));
-      is = (froms.is, tos.is, frames.is.0, frames.is.1);
-    })
-
-by_none : {E : Type 0} (kinds : Kinds E) (none : Bool) (word : List ℕ) (words : List (List ℕ)) (shown : Option ShownFrame) → bytes_eq word (codes "none") ≡ none →
-    (if none then (end_at kinds words >>= λ end. Ok None) else (shown_from kinds (word ∷ words) >>= λ s. Ok (Some s))) ≡ Ok shown → ShownWas (word ∷ words) shown
-by_none kinds true word words shown is h =
-    let one = bound (end_at kinds words) _ shown h in
-    subst (λ (s : Option ShownFrame). ShownWas (word ∷ words) s) (given_is kinds None shown one.2) (record {
-      spelled = ap₂ (λ (w : List ℕ) (ws : List (List ℕ)). w ∷ ws) ((bytes_eq-Decides word (codes "none")).0 is) (end_was kinds words one.0 one.1);
-      is = tt;
-    })
-by_none kinds false word words shown is h =
-    let one = bound (shown_from kinds (word ∷ words)) _ shown h in
-    subst (λ (s : Option ShownFrame). ShownWas (word ∷ words) s) (given_is kinds (Some one.0) shown one.2) (shown_from_was kinds (word ∷ words) one.0 one.1)
-
-shown_was : {E : Type 0} (kinds : Kinds E) (words : List (List ℕ)) (shown : Option ShownFrame) → shown_of kinds words ≡ Ok shown → ShownWas words shown
-unfolding shown_of
-shown_was kinds [] shown h = absurd cc
-shown_was kinds (word ∷ words) shown h = by_none kinds (bytes_eq word (codes "none")) word words shown refl h
-
-frame_was : {E : Type 0} (kinds : Kinds E) (words : List (List ℕ)) (line : Line) → frame_of kinds words ≡ Ok line → Was (codes "frame" ∷ words) line
-unfolding frame_of
-frame_was kinds words line h =
-    let one = bound (count_at kinds words) _ line h in
-    let number = one.0 in
-    let two = bound (shown_of kinds number.1) _ line one.2 in
-    let numbers = count_was kinds words number one.1 in
-    let shown = shown_was kinds number.1 two.0 two.1 in
-    subst (λ (l : Line). Was (codes "frame" ∷ words) l) (given_is kinds (Frame number.0 two.0) line two.2) (record {
-      spelled = onto (codes "frame") (ahead numbers shown.spelled);
-      is = (numbers.is, shown.is);
-    })
-
-ended_was : {E : Type 0} (kinds : Kinds E) (words : List (List ℕ)) (line : Line) → end_of kinds words ≡ Ok line → Was (codes "end" ∷ words) line
-unfolding end_of
-ended_was kinds words line h =
-    let one = bound (count_at kinds words) _ line h in
-    let events = one.0 in
-    let two = bound (end_at kinds events.1) _ line one.2 in
-    let numbers = count_was kinds words events one.1 in
-    subst (λ (l : Line). Was (codes "end" ∷ words) l) (given_is kinds (End events.0) line two.2) (record {
-      spelled = onto (codes "end") (ahead numbers (end_was kinds events.1 two.0 two.1));
-      is = numbers.is;
-    })
-
--- which word stood first
-keyword : (word key : List ℕ) (words : List (List ℕ)) (line : Line) → bytes_eq word key ≡ true → Was (key ∷ words) line → Was (word ∷ words) line
-keyword word key words line is was = subst (λ (w : List ℕ). Was (w ∷ words) line) (sym ((bytes_eq-Decides word key).0 is)) was
-
-by_word : {E : Type 0} (kinds : Kinds E) (l d f e : Bool) (word : List ℕ) (words : List (List ℕ)) (line : Line) →
-    bytes_eq word (codes "learn") ≡ l → bytes_eq word (codes "deliver") ≡ d → bytes_eq word (codes "frame") ≡ f → bytes_eq word (codes "end") ≡ e →
-    (if l then learn_of kinds words else if d then deliver_of kinds words else if f then frame_of kinds words else if e then end_of kinds words else Err kinds.word) ≡ Ok line →
-    Was (word ∷ words) line
-by_word kinds true d f e word words line is second third fourth h = keyword word (codes "learn") words line is (learn_was kinds words line h)
-by_word kinds false true f e word words line first is third fourth h = keyword word (codes "deliver") words line is (deliver_was kinds words line h)
-by_word kinds false false true e word words line first second is fourth h = keyword word (codes "frame") words line is (frame_was kinds words line h)
-by_word kinds false false false true word words line first second third is h = keyword word (codes "end") words line is (ended_was kinds words line h)
-by_word kinds false false false false word words line first second third fourth h = absurd cc
-
-line_was : {E : Type 0} (kinds : Kinds E) (words : List (List ℕ)) (line : Line) → line_in kinds words ≡ Ok line → Was words line
-unfolding line_in
-line_was kinds [] line h = absurd cc
-line_was kinds (word ∷ words) line h =
-    by_word kinds (bytes_eq word (codes "learn")) (bytes_eq word (codes "deliver")) (bytes_eq word (codes "frame")) (bytes_eq word (codes "end")) word words line
-    refl refl refl refl h
-
--- ---- the words of a line have no space
-
-no_space : List ℕ → Bool
-no_space [] = true
-no_space (b ∷ rest) = nat_lt 32 b && no_space rest
-
-lacks_space : (word : List ℕ) → no_space word ≡ true → Lacks 32 word
-unfolding no_space
-lacks_space [] test = tt
-lacks_space (b ∷ rest) test =
-    let tests = both (nat_lt 32 b) (no_space rest) test in
-    (λ same. grind (arith, tests.0, same), lacks_space rest tests.1)
-
-lacks_shown : (shown : Option ShownFrame) → IsShown shown → AllByRecursion (Lacks 32) (shown_words shown)
-unfolding no_space
-lacks_shown None is = (lacks_space (codes "none") refl, tt)
-lacks_shown (Some shown) is = (party.lacks shown.from is.0, (party.lacks shown.to is.1, (bytes.lacks shown.bytes (is.2, is.3), tt)))
-
-spelled_words : (line : Line) → IsLine line → words_of (joined (line_words line)) ≡ line_words line
-unfolding no_space
-spelled_words (Learn node ring lo hi decided) is = words_of_joined (codes "learn") _ (
-  lacks_space (codes "learn") refl,
-  (id.lacks node.0 is.0, (id.lacks ring.0 is.1, (count.lacks lo is.2, (count.lacks hi is.3, (value.lacks decided is.4, tt))))),
-)
-spelled_words (Deliver node ring inst) is = words_of_joined (codes "deliver") _ (
-  lacks_space (codes "deliver") refl,
-  (id.lacks node.0 is.0, (id.lacks ring.0 is.1, (count.lacks inst is.2, tt))),
-)
-spelled_words (Frame number shown) is = words_of_joined (codes "frame") _ (
-  lacks_space (codes "frame") refl,
-  (count.lacks number is.0, lacks_shown shown is.1),
-)
-spelled_words (End events) is = words_of_joined (codes "end") _ (lacks_space (codes "end") refl, (count.lacks events is, tt))
 
 -- ---- bytes
 
-text_of_feed : (text : List ℕ) → text_in (text ++ 10 ∷ []) ≡ (text, true)
+pub text_of_feed : (text : List ℕ) → text_in (text ++ 10 ∷ []) ≡ (text, true)
 text_of_feed [] = refl
 text_of_feed (b ∷ []) = refl
 text_of_feed (b ∷ c ∷ rest) = ap (onto_text b) (text_of_feed (c ∷ rest))
+
+pub text_of_other : (text : List ℕ) (last : ℕ) → (last ≡ 10 → ⊥) → text_in (text ++ last ∷ []) ≡ (text ++ last ∷ [], false)
+text_of_other [] last apart = by (last == 10) refl
+  where
+    by : (t : Bool) → (last == 10) ≡ t → ◌≡◌ {A = List ℕ × Bool} (if t then ([], true) else (last ∷ [], false)) (last ∷ [], false)
+    by true is = absurd (apart (grind (arith, is)))
+    by false is = refl
+text_of_other (b ∷ []) last apart = ap (onto_text b) (text_of_other [] last apart)
+text_of_other (b ∷ c ∷ rest) last apart = ap (onto_text b) (text_of_other (c ∷ rest) last apart)
 
 -- bytes are their text, and a line feed where one stood
 abbrev pub whole_text : List ℕ × Bool → List ℕ
@@ -282,43 +376,41 @@ feed_of_text [] = refl
 feed_of_text (b ∷ []) = feed_test b (b == 10) refl
 feed_of_text (b ∷ c ∷ rest) = ap (λ (l : List ℕ). b ∷ l) (feed_of_text (c ∷ rest))
 
--- a line that may be is read as it is spelled, whatever the faults are called
-pub line_at_bytes : {E : Type 0} (kinds : Kinds E) (line : Line) → IsLine line → line_at kinds (line_bytes line) ≡ Ok line
-line_at_bytes kinds line is = rw (text_of_feed (joined (line_words line)), spelled_words line is, line_read kinds line is) refl
+pub line_at_bytes : (line : Line) → IsLine line → line_at (line_bytes line) ≡ Ok line
+line_at_bytes line is = rw (text_of_feed (joined (line_words line)), spelled_words line is, line_read line is) refl
 
 -- the bytes were those of the line, and the line may be
 pub record BytesWere (bytes : List ℕ) (line : Line) : Type 0 where
   pub spelled : bytes ≡ line_bytes line
   pub is : IsLine line
 
-by_feed : {E : Type 0} (kinds : Kinds E) (feed : Bool) (found line : Line) → (if feed then Ok found else Err kinds.cut) ≡ given kinds line → (feed ≡ true) × (found ≡ line)
-by_feed kinds true found line h = (refl, given_is kinds found line h)
-by_feed kinds false found line h = absurd cc
+by_feed : (feed : Bool) (found line : Line) → (if feed then done found else Err kind.Cut) ≡ done line → (feed ≡ true) × (found ≡ line)
+by_feed true found line h = (refl, done_is found line h)
+by_feed false found line h = absurd cc
 
--- what is read is spelled so, whatever the faults are called
-pub line_at_was : {E : Type 0} (kinds : Kinds E) (bytes : List ℕ) (line : Line) → line_at kinds bytes ≡ Ok line → BytesWere bytes line
-line_at_was kinds bytes line h =
+pub line_at_was : (bytes : List ℕ) (line : Line) → line_at bytes ≡ Ok line → BytesWere bytes line
+line_at_was bytes line h =
     let text = text_in bytes in
-    let one = bound (line_in kinds (words_of text.0)) _ line h in
-    let feed = by_feed kinds text.1 one.0 line one.2 in
-    let was = line_was kinds (words_of text.0) one.0 one.1 in
+    let one = bound (line_in (words_of text.0)) (λ found. if text.1 then done found else Err kind.Cut) line h in
+    let feed = by_feed text.1 one.0 line one.2 in
+    let was = line_was (words_of text.0) one.0 one.1 in
     let spelled : text.0 ≡ joined (line_words one.0) = sym (joined_words_of text.0) ∙ ap joined was.spelled in
     subst (λ (l : Line). BytesWere bytes l) feed.1 (record {
       spelled = sym (feed_of_text bytes) ∙ ap (λ (t : Bool). text.0 ++ (if t then 10 ∷ [] else [])) feed.0 ∙ ap (λ (l : List ℕ). l ++ 10 ∷ []) spelled;
       is = was.is;
     })
 
--- ---- one kind of fault
+-- ---- where it doesn't matter which fault it is
 
-result_was : {E : Type 0} (read : Result Line E) (line : Line) → result_ok read ≡ Some line → read ≡ Ok line
+result_was : (read : Result Line LineKind) (line : Line) → result_ok read ≡ Some line → read ≡ Ok line
 result_was (Ok found) line h = cc
-result_was (Err e) line h = absurd (grind arith)
+result_was (Err fault) line h = absurd (grind arith)
 
 pub line_of_bytes : (line : Line) → IsLine line → line_of (line_bytes line) ≡ Some line
-line_of_bytes line is = ap result_ok (line_at_bytes one_kind line is)
+line_of_bytes line is = ap result_ok (line_at_bytes line is)
 
 pub line_of_was : (bytes : List ℕ) (line : Line) → line_of bytes ≡ Some line → BytesWere bytes line
-line_of_was bytes line h = line_at_was one_kind bytes line (result_was (line_at one_kind bytes) line h)
+line_of_was bytes line h = line_at_was bytes line (result_was (line_at bytes) line h)
 
 pub one_line : (line other : Line) → IsLine line → IsLine other → line_bytes line ≡ line_bytes other → line ≡ other
 one_line line other is others same =

@@ -1,20 +1,33 @@
--- What a word of a line may say: a number, a party, bytes, a value.
-use Rattle.std.specs.Prelude.{ℕ, nat_lt, nat_le, ◌==◌, ◌&&◌, if◌then◌else◌, List, [], ◌∷◌, length, codes, Option, Some, None, Result, Ok, Err}
+-- What a word of a line may say: a number, a tuple, a party, bytes, a value.
+use Rattle.std.specs.Prelude.{ℕ, ◌^◌, nat_lt, nat_le, ◌==◌, ◌&&◌, if◌then◌else◌, List, [], ◌∷◌, length, codes, Option, Some, None, Result, Ok, Err}
 use Rattle.std.specs.Option.{option_map, option_and_then}
 use Rattle.std.specs.Str.{bytes_eq}
-use Rattle.std.specs.Str.Parse.{digits_value}
-use Rattle.std.specs.Fmt.{decimal}
-use Rattle.hex.specs.Hex.{encode_lower, decode_of}
-use Rattle.hex.specs.declared.error.FromHexError.{FromHexError}
+use Rattle.text_lines.specs.Split.{pieces_of}
+use Rattle.text_lines.specs.Reading.{number_of as decimal_of, hex_of}
+use Rattle.text_lines.specs.declared.fault.TextFault.{TextFault}
 use Rattle.command_codec.specs.Parts.{spells_batch}
 use Rattle.mrp_types.specs.declared.id.Party.{Party}
 use Rattle.mrp_types.specs.declared.id.Party.TheVariants.{Node, Client}
 use Rattle.mrp_types.specs.declared.value.Value.{Value}
 use Rattle.mrp_types.specs.declared.value.Value.TheVariants.{Skip, Batch}
 
+-- the number, where there is one below the limit
+abbrev pub below : ℕ → Result ℕ TextFault → Option ℕ
+below limit (Ok n) = if nat_lt n limit then Some n else None
+below limit (Err fault) = None
+
 -- the number below a limit that a word spells: decimal without leading zeros
 unfoldable pub number_of : ℕ → List ℕ → Option ℕ
-number_of limit word = if nat_lt (digits_value 10 word) limit && bytes_eq (decimal (digits_value 10 word)) word then Some (digits_value 10 word) else None
+number_of limit word = below limit (decimal_of word)
+
+-- the numbers that these pieces spell, each below 2 ^ 64
+abbrev pub numbers_of : List (List ℕ) → Option (List ℕ)
+numbers_of [] = Some []
+numbers_of (piece ∷ pieces) = option_and_then (λ n. option_map (λ (ns : List ℕ). n ∷ ns) (numbers_of pieces)) (number_of (2 ^ 64) piece)
+
+-- the tuple that a word spells: 1 to 16 numbers with commas between
+unfoldable pub tuple_of : List ℕ → Option (List ℕ)
+tuple_of word = if nat_le (length (pieces_of 44 word)) 16 then numbers_of (pieces_of 44 word) else None
 
 -- a node's number behind an `n`, a client's behind a `c`
 abbrev pub party_of : List ℕ → Option Party
@@ -24,15 +37,15 @@ party_of (b ∷ digits) =
     else if b == 99 then option_map (λ n. Client (record { 0 = n })) (number_of 256 digits)
     else None
 
--- these bytes, one or more, where the word is their lower-case hexadecimal
-abbrev pub spelled_by : List ℕ → Result (List ℕ) FromHexError → Option (List ℕ)
-spelled_by word (Ok []) = None
-spelled_by word (Ok (b ∷ rest)) = if bytes_eq (encode_lower (b ∷ rest)) word then Some (b ∷ rest) else None
-spelled_by word (Err e) = None
+-- these bytes, where there are any
+abbrev pub some_bytes : Result (List ℕ) TextFault → Option (List ℕ)
+some_bytes (Ok []) = None
+some_bytes (Ok (b ∷ rest)) = Some (b ∷ rest)
+some_bytes (Err fault) = None
 
 -- the bytes that a word spells: one or more, in lower-case hexadecimal
 unfoldable pub bytes_of : List ℕ → Option (List ℕ)
-bytes_of word = spelled_by word (decode_of word)
+bytes_of word = some_bytes (hex_of word)
 
 -- a batch of at most 8,192 bytes
 abbrev pub batch_value : List ℕ → Option Value

@@ -1,110 +1,161 @@
--- Reading a line word by word from the left: the line, or the first fault.
-use Rattle.std.specs.Prelude.{ℕ, ◌^◌, ◌==◌, Bool, true, false, if◌then◌else◌, List, [], ◌∷◌, codes, Option, Some, None, Result, Ok, Err}
-use Rattle.std.specs.Option.{ok_or}
+-- Reading a line word by word from the left: the line, or its first fault.
+use Rattle.std.specs.Prelude.{ℕ, ◌≡◌, ◌^◌, ◌==◌, Bool, true, false, if◌then◌else◌, List, [], ◌∷◌, codes, Option, Some, None, Result, Ok, Err}
 use Rattle.std.specs.Result.{result_ok}
-use Rattle.std.specs.Str.{bytes_eq}
+use Rattle.mrp_types.specs.declared.id.RingId.{RingId}
+use Rattle.mrp_types.specs.declared.id.Party.{Party}
+use Rattle.mrp_types.specs.declared.value.Value.{Value}
 use Rattle.text_lines.specs.Split.{words_of}
+use Rattle.text_lines.specs.Reading.{◌>>=◌}
+use Rattle.transcript.specs.declared.fault.LineKind.{LineKind}
+use Rattle.transcript.specs.declared.fault.LineFault.{LineFault}
+use Rattle.transcript.specs.declared.fault.LineKind.TheVariants as kind
 use Rattle.transcript.specs.declared.line.Line.{Line}
-use Rattle.transcript.specs.declared.line.Line.TheVariants.{Learn, Deliver, Frame, End}
+use Rattle.transcript.specs.declared.line.Line.TheVariants as line
+use Rattle.transcript.specs.declared.line.Cause.{Cause}
+use Rattle.transcript.specs.declared.line.Cause.TheVariants as cause
+use Rattle.transcript.specs.declared.kinds.Limit.{Limit}
+use Rattle.transcript.specs.declared.kinds.Limit.TheVariants as limit
+use Rattle.transcript.specs.declared.line.ShownState.{ShownState}
 use Rattle.transcript.specs.declared.line.ShownFrame.{ShownFrame}
-use Rattle.transcript.specs.Fields.{number_of, party_of, bytes_of, value_of}
+use Rattle.transcript.specs.Fields.{number_of, tuple_of, party_of, bytes_of, value_of}
+use Rattle.transcript.specs.Words.{Reader, Fails, one, both, shown, given, unless, by_key, end_at}
 
--- What a reader calls its faults: a word that is missing or another than is due; no such number or party; no
--- hexadecimal, or a value that is none; words left over; no line feed at the end.
-pub record Kinds (E : Type 0) : Type 0 where
-  pub word : E
-  pub number : E
-  pub hex : E
-  pub left : E
-  pub cut : E
-
--- the second step, where the first found no fault
-infixl 10 ◌>>=◌
-abbrev pub ◌>>=◌ : {A B E : Type 0} → Result A E → (A → Result B E) → Result B E
-(Ok x) >>= f = f x
-(Err e) >>= f = Err e
-
--- the next word, and the words behind it
-abbrev pub word_at : {E : Type 0} → Kinds E → List (List ℕ) → Result (List ℕ × List (List ℕ)) E
-word_at kinds [] = Err kinds.word
-word_at kinds (word ∷ words) = Ok (word, words)
-
--- what the next word says, and the words behind it
-abbrev pub field_at : {E V : Type 0} → Kinds E → E → (List ℕ → Option V) → List (List ℕ) → Result (V × List (List ℕ)) E
-field_at kinds fault said_by words = do
-  word ← word_at kinds words
-  value ← ok_or (said_by word.0) fault
-  Ok (value, word.1)
+-- ---- fields
 
 -- a number of a node, a ring or a client
-abbrev pub id_at : {E : Type 0} → Kinds E → List (List ℕ) → Result (ℕ × List (List ℕ)) E
-id_at kinds words = field_at kinds kinds.number (number_of 256) words
+abbrev pub id_at : Reader ℕ
+id_at = one kind.Number (number_of 256)
 
 -- any other number
-abbrev pub count_at : {E : Type 0} → Kinds E → List (List ℕ) → Result (ℕ × List (List ℕ)) E
-count_at kinds words = field_at kinds kinds.number (number_of (2 ^ 64)) words
+abbrev pub count_at : Reader ℕ
+count_at = one kind.Number (number_of (2 ^ 64))
 
--- no word is left
-abbrev pub end_at : {E : Type 0} → Kinds E → List (List ℕ) → Result (Unit {0}) E
-end_at kinds [] = Ok tt
-end_at kinds (word ∷ words) = Err kinds.left
+abbrev pub tuple_at : Reader (List ℕ)
+tuple_at = one kind.Number tuple_of
+
+abbrev pub hex_at : Reader (List ℕ)
+hex_at = one kind.Hex bytes_of
+
+abbrev pub value_at : Reader Value
+value_at = one kind.Hex value_of
+
+abbrev pub party_at : Reader Party
+party_at = one kind.Number party_of
 
 -- ---- lines by their first word
 
-unfoldable pub learn_of : {E : Type 0} → Kinds E → List (List ℕ) → Result Line E
-learn_of kinds words = do
-  node ← id_at kinds words
-  ring ← id_at kinds node.1
-  lo ← count_at kinds ring.1
-  hi ← count_at kinds lo.1
-  value ← field_at kinds kinds.hex value_of hi.1
-  end ← end_at kinds value.1
-  Ok (Learn (record { 0 = node.0 }) (record { 0 = ring.0 }) lo.0 hi.0 value.0)
+unfoldable pub learn_at : Reader Line
+learn_at = shown (λ x. line.Learn (record { 0 = x.0 }) (record { 0 = x.1.0 }) x.1.1.0 x.1.1.1.0 x.1.1.1.1)
+    (both id_at (both id_at (both count_at (both count_at value_at))))
 
-unfoldable pub deliver_of : {E : Type 0} → Kinds E → List (List ℕ) → Result Line E
-deliver_of kinds words = do
-  node ← id_at kinds words
-  ring ← id_at kinds node.1
-  inst ← count_at kinds ring.1
-  end ← end_at kinds inst.1
-  Ok (Deliver (record { 0 = node.0 }) (record { 0 = ring.0 }) inst.0)
+unfoldable pub deliver_at : Reader Line
+deliver_at = shown (λ x. line.Deliver (record { 0 = x.0 }) (record { 0 = x.1.0 }) x.1.1) (both id_at (both id_at count_at))
 
--- the frame whose sender has this word
-unfoldable pub shown_from : {E : Type 0} → Kinds E → List (List ℕ) → Result ShownFrame E
-shown_from kinds words = do
-  from ← field_at kinds kinds.number party_of words
-  to ← field_at kinds kinds.number party_of from.1
-  bytes ← field_at kinds kinds.hex bytes_of to.1
-  end ← end_at kinds bytes.1
-  Ok (record { from = from.0; to = to.0; bytes = bytes.0 })
+unfoldable pub reply_at : Reader Line
+reply_at = shown (λ x. line.Reply (record { 0 = x.0 }) (record { 0 = x.1.0 }) x.1.1.0 x.1.1.1.0 (record { 0 = x.1.1.1.1.0 }) x.1.1.1.1.1.0 x.1.1.1.1.1.1)
+    (both id_at (both id_at (both count_at (both count_at (both id_at (both count_at hex_at))))))
 
--- `none`, or a frame
-unfoldable pub shown_of : {E : Type 0} → Kinds E → List (List ℕ) → Result (Option ShownFrame) E
-shown_of kinds words = do
-  word ← word_at kinds words
-  if bytes_eq word.0 (codes "none") then (end_at kinds word.1 >>= λ end. Ok None) else (shown_from kinds words >>= λ shown. Ok (Some shown))
+unfoldable pub answer_at : Reader Line
+answer_at = shown (λ x. line.Answer (record { 0 = x.0 }) x.1.0 x.1.1) (both id_at (both count_at hex_at))
 
-unfoldable pub frame_of : {E : Type 0} → Kinds E → List (List ℕ) → Result Line E
-frame_of kinds words = do
-  number ← count_at kinds words
-  shown ← shown_of kinds number.1
-  Ok (Frame number.0 shown)
+unfoldable pub busy_at : Reader Line
+busy_at = shown (λ x. line.Busy (record { 0 = x.0 }) x.1) (both id_at count_at)
 
-unfoldable pub end_of : {E : Type 0} → Kinds E → List (List ℕ) → Result Line E
-end_of kinds words = do
-  events ← count_at kinds words
-  end ← end_at kinds events.1
-  Ok (End events.0)
+unfoldable pub begin_at : Reader Line
+begin_at = shown (λ x. line.Begin (record { 0 = x.0 }) x.1.0 x.1.1.0 x.1.1.1) (both id_at (both count_at (both count_at tuple_at)))
 
--- the line of these words
-unfoldable pub line_in : {E : Type 0} → Kinds E → List (List ℕ) → Result Line E
-line_in kinds words = do
-  word ← word_at kinds words
-  if bytes_eq word.0 (codes "learn") then learn_of kinds word.1
-      else if bytes_eq word.0 (codes "deliver") then deliver_of kinds word.1
-      else if bytes_eq word.0 (codes "frame") then frame_of kinds word.1
-      else if bytes_eq word.0 (codes "end") then end_of kinds word.1
-      else Err kinds.word
+unfoldable pub chose_at : Reader Line
+chose_at = shown (λ x. line.Chose (record { 0 = x.0 }) x.1.0 x.1.1.0 x.1.1.1.0 (record { 0 = x.1.1.1.1 }))
+    (both id_at (both count_at (both count_at (both tuple_at id_at))))
+
+unfoldable pub restore_at : Reader Line
+restore_at = shown (λ x. line.Restore (record { 0 = x.0 }) x.1) (both id_at tuple_at)
+
+unfoldable pub saved_at : Reader Line
+saved_at = shown (λ x. line.Saved (record { 0 = x.0 }) x.1) (both id_at tuple_at)
+
+unfoldable pub trim_at : Reader Line
+trim_at = shown (λ x. line.Trim (record { 0 = x.0 }) (record { 0 = x.1.0 }) x.1.1) (both id_at (both id_at count_at))
+
+unfoldable pub refuse_at : Reader Line
+refuse_at = shown (λ x. line.Refuse (record { 0 = x.0 }) x.1.0 x.1.1.0 x.1.1.1.0 x.1.1.1.1) (both id_at (both count_at (both count_at (both count_at count_at))))
+
+abbrev pub limit_line : ℕ × Limit → Line
+limit_line (node, limit.Ballot ring) = line.BallotLimit (record { 0 = node }) (record { 0 = ring })
+limit_line (node, limit.Instance ring) = line.InstanceLimit (record { 0 = node }) (record { 0 = ring })
+limit_line (node, limit.Attempt) = line.AttemptLimit (record { 0 = node })
+
+abbrev pub limits : List (List ℕ × Reader Limit)
+limits = (codes "ballot", shown limit.Ballot id_at) ∷ (codes "instance", shown limit.Instance id_at) ∷ (codes "attempt", given limit.Attempt) ∷ []
+
+unfoldable pub limit_of : Reader Limit
+limit_of = by_key limits
+
+unfoldable pub limit_at : Reader Line
+limit_at = shown limit_line (both id_at limit_of)
+
+abbrev pub causes : List (List ℕ × Reader Cause)
+causes = (codes "crash", given cause.Crash) ∷ (codes "disk", given cause.Disk) ∷ (codes "full", given cause.Full) ∷ []
+
+unfoldable pub cause_at : Reader Cause
+cause_at = by_key causes
+
+unfoldable pub down_at : Reader Line
+down_at = shown (λ x. line.Down (record { 0 = x.0 }) x.1) (both id_at cause_at)
+
+unfoldable pub up_at : Reader Line
+up_at = shown (λ x. line.Up (record { 0 = x.0 }) x.1) (both id_at count_at)
+
+-- `-`, or a tuple and bytes
+unfoldable pub state_of : Reader (Option ShownState)
+state_of = unless (codes "-") None (shown (λ x. Some (record { tuple = x.0; bytes = x.1 })) (both tuple_at hex_at))
+
+unfoldable pub state_at : Reader Line
+state_at = shown (λ x. line.State (record { 0 = x.0 }) x.1) (both id_at state_of)
+
+-- `none`, or a sender, a receiver and bytes
+unfoldable pub frame_of : Reader (Option ShownFrame)
+frame_of = unless (codes "none") None (shown (λ x. Some (record { from = x.0; to = x.1.0; bytes = x.1.1 })) (both party_at (both party_at hex_at)))
+
+unfoldable pub frame_at : Reader Line
+frame_at = shown (λ x. line.Frame x.0 x.1) (both count_at frame_of)
+
+unfoldable pub last_at : Reader Line
+last_at = shown line.End count_at
+
+-- the kinds of lines by their first word
+unfoldable pub kinds_of_nodes : List (List ℕ × Reader Line)
+kinds_of_nodes = (codes "limit", limit_at) ∷ (codes "down", down_at) ∷ (codes "up", up_at) ∷ (codes "state", state_at) ∷ (codes "frame", frame_at) ∷ []
+
+unfoldable pub kinds_of_recovery : List (List ℕ × Reader Line)
+kinds_of_recovery =
+    (codes "begin", begin_at)
+    ∷ (codes "chose", chose_at)
+    ∷ (codes "restore", restore_at)
+    ∷ (codes "saved", saved_at)
+    ∷ (codes "trim", trim_at)
+    ∷ (codes "refuse", refuse_at)
+    ∷ kinds_of_nodes
+
+abbrev pub kinds : List (List ℕ × Reader Line)
+kinds =
+    (codes "learn", learn_at)
+    ∷ (codes "deliver", deliver_at)
+    ∷ (codes "reply", reply_at)
+    ∷ (codes "answer", answer_at)
+    ∷ (codes "busy", busy_at)
+    ∷ (codes "end", last_at)
+    ∷ kinds_of_recovery
+
+unfoldable pub kind_at : Reader Line
+kind_at = by_key kinds
+
+-- the line of these words, all of the words
+abbrev pub line_in : List (List ℕ) → Result Line LineKind
+line_in words = do
+  line ← kind_at words
+  end ← end_at line.1
+  Ok line.0
 
 -- ---- bytes
 
@@ -118,16 +169,21 @@ text_in [] = ([], false)
 text_in (b ∷ []) = if b == 10 then ([], true) else (b ∷ [], false)
 text_in (b ∷ c ∷ rest) = onto_text b (text_in (c ∷ rest))
 
--- the line that the bytes spell, all of the bytes, or the first fault from the left
-abbrev pub line_at : {E : Type 0} → Kinds E → List ℕ → Result Line E
-line_at kinds bytes = do
-  line ← line_in kinds (words_of (text_in bytes).0)
-  if (text_in bytes).1 then Ok line else Err kinds.cut
+-- the line of a text, and whether a line feed ends it
+abbrev pub line_of_text : List ℕ × Bool → Result Line LineKind
+line_of_text text = do
+  line ← line_in (words_of text.0)
+  if text.1 then Ok line else Err kind.Cut
 
--- where it doesn't matter which fault it is
-abbrev pub one_kind : Kinds (Unit {0})
-one_kind = record { word = tt; number = tt; hex = tt; left = tt; cut = tt }
+-- the line that the bytes spell, all of the bytes, or the first fault from the left
+abbrev pub line_at : List ℕ → Result Line LineKind
+line_at bytes = line_of_text (text_in bytes)
 
 -- the line that the bytes spell, where they spell one
 abbrev pub line_of : List ℕ → Option Line
-line_of bytes = result_ok (line_at one_kind bytes)
+line_of bytes = result_ok (line_at bytes)
+
+-- What reading a line of this number answers: the line, or its first fault, unless memory ran out.
+abbrev pub Judges : Result Line LineKind → ℕ → Result Line LineFault → Type 0
+Judges read number (Ok line) = read ≡ Ok line
+Judges read number (Err fault) = (fault.line ≡ number) × Fails read fault.kind

@@ -1,17 +1,21 @@
-//! The lines that the system prints, and their spelling.
+//! The lines that the system prints, and their spelling both ways.
 #![tactic(auto)]
 
+mod fault;
+mod fields;
+mod instances;
+mod kinds;
 mod laws;
 mod line;
 mod lines;
-mod rows;
+mod reading;
+mod words;
 mod writing;
 
+pub use fault::{LineFault, LineKind};
+pub use instances::Instances;
 pub use laws::{lines_are_read, one_spelling_a_line, what_is_read_is_spelled_so};
-pub use line::{Line, ShownFrame};
+pub use line::{Cause, Line, ShownFrame, ShownState};
 pub use lines::Lines;
-pub use rows::first_faults;
+pub use reading::read_line;
 pub use writing::{put_line, write_line};
-
-#[cfg(test)]
-mod tests;

@@ -1,13 +1,14 @@
 //! Lines as text.
 
-ghost use Rattle.std.specs.Prelude.{◌≡◌, ◌++◌, ◌∷◌, IfOk, OnOk};
+ghost use Rattle.std.specs.Prelude.{◌≡◌, ◌++◌, ◌∷◌, map, IfOk, OnOk};
 ghost use Rattle.std.specs.Fmt.{decimal};
-ghost use Rattle.transcript.specs.Spelling.{line_bytes, learn_head, value_text, party_text, shown_words};
-ghost use Rattle.text_lines.specs.Text.{spaced};
 ghost use Rattle.std.specs.List.{flat_map};
+ghost use Rattle.text_lines.specs.Text.{set_off, spaced, joined};
+ghost use Rattle.transcript.specs.declared.line.Line.TheVariants.{Answer, BallotLimit, InstanceLimit};
+ghost use Rattle.transcript.specs.Spelling.{line_bytes, line_words, value_text, tuple_text, party_text, cause_text, state_words, frame_words};
 
-use crate::{Line, ShownFrame};
-use mrp_types::{Inst, Memory, NodeId, Octets, Party, RingId, Value};
+use crate::{Cause, Instances, Line, ShownFrame, ShownState};
+use mrp_types::{ClientId, Memory, NodeId, Octets, Party, RingId, Value};
 use std::alloc::Global;
 use text_lines::{put_hex, put_number, put_word};
 
@@ -24,6 +25,14 @@ pub fn write_line(alloc: Global, line: &Line) -> Result<Octets, Memory>
 pub fn put_line(alloc: Global, out: &mut Octets, line: &Line) -> Result<(), Memory>
     ensures { OnOk result (out.new ≡ out.old ++ line_bytes line.now) }
 {
+    put_words(alloc, out, line)?;
+    out.push(b'\n')
+}
+
+// Adds the words of a line.
+fn put_words(alloc: Global, out: &mut Octets, line: &Line) -> Result<(), Memory>
+    ensures { OnOk result (out.new ≡ out.old ++ joined (line_words line.now)) }
+{
     match line {
         Line::Learn {
             node,
@@ -32,43 +41,171 @@ pub fn put_line(alloc: Global, out: &mut Octets, line: &Line) -> Result<(), Memo
             hi,
             value,
         } => {
-            put_learn_head(alloc, out, *node, *ring, *lo, *hi)?;
-            put_value(alloc, out, value)?;
+            put_head(
+                alloc,
+                out,
+                b"learn",
+                &[u64::from(node.0), u64::from(ring.0), *lo, *hi],
+            )?;
+            put_value(alloc, out, value)
         }
-        Line::Deliver { node, ring, inst } => {
-            out.extend(b"deliver")?;
-            put_number(alloc, out, u64::from(node.0))?;
-            put_number(alloc, out, u64::from(ring.0))?;
-            put_number(alloc, out, *inst)?;
+        Line::Deliver { node, ring, inst } => put_head(
+            alloc,
+            out,
+            b"deliver",
+            &[u64::from(node.0), u64::from(ring.0), *inst],
+        ),
+        Line::Reply {
+            node,
+            ring,
+            inst,
+            index,
+            client,
+            seq,
+            reply,
+        } => {
+            put_head(
+                alloc,
+                out,
+                b"reply",
+                &[
+                    u64::from(node.0),
+                    u64::from(ring.0),
+                    *inst,
+                    *index,
+                    u64::from(client.0),
+                    *seq,
+                ],
+            )?;
+            put_hex(alloc, out, reply.bytes())
+        }
+        Line::Answer { client, seq, reply } => put_answer(alloc, out, *client, *seq, reply),
+        Line::Busy { client, seq } => put_head(alloc, out, b"busy", &[u64::from(client.0), *seq]),
+        Line::Begin {
+            node,
+            epoch,
+            attempt,
+            tuple,
+        } => {
+            put_head(alloc, out, b"begin", &[u64::from(node.0), *epoch, *attempt])?;
+            put_tuple(alloc, out, tuple)
+        }
+        Line::Chose {
+            node,
+            epoch,
+            attempt,
+            tuple,
+            from,
+        } => {
+            put_head(alloc, out, b"chose", &[u64::from(node.0), *epoch, *attempt])?;
+            put_tuple(alloc, out, tuple)?;
+            put_number(alloc, out, u64::from(from.0))
+        }
+        Line::Restore { node, tuple } => {
+            put_head(alloc, out, b"restore", &[u64::from(node.0)])?;
+            put_tuple(alloc, out, tuple)
+        }
+        Line::Saved { node, tuple } => {
+            put_head(alloc, out, b"saved", &[u64::from(node.0)])?;
+            put_tuple(alloc, out, tuple)
+        }
+        Line::Trim { node, ring, inst } => put_head(
+            alloc,
+            out,
+            b"trim",
+            &[u64::from(node.0), u64::from(ring.0), *inst],
+        ),
+        Line::Refuse {
+            node,
+            epoch,
+            attempt,
+            answered,
+            needed,
+        } => put_head(
+            alloc,
+            out,
+            b"refuse",
+            &[u64::from(node.0), *epoch, *attempt, *answered, *needed],
+        ),
+        Line::BallotLimit { node, ring } => put_ballot_limit(alloc, out, *node, *ring),
+        Line::InstanceLimit { node, ring } => put_instance_limit(alloc, out, *node, *ring),
+        Line::AttemptLimit { node } => {
+            put_head(alloc, out, b"limit", &[u64::from(node.0)])?;
+            put_word(out, b"attempt")
+        }
+        Line::Down { node, cause } => {
+            put_head(alloc, out, b"down", &[u64::from(node.0)])?;
+            put_cause(out, *cause)
+        }
+        Line::Up { node, epoch } => put_head(alloc, out, b"up", &[u64::from(node.0), *epoch]),
+        Line::State { node, shown } => {
+            put_head(alloc, out, b"state", &[u64::from(node.0)])?;
+            put_state(alloc, out, shown)
         }
         Line::Frame { number, shown } => {
-            out.extend(b"frame")?;
-            put_number(alloc, out, *number)?;
-            put_shown(alloc, out, shown)?;
+            put_head(alloc, out, b"frame", &[*number])?;
+            put_frame(alloc, out, shown)
         }
-        Line::End { events } => {
-            out.extend(b"end")?;
-            put_number(alloc, out, *events)?;
-        }
+        Line::End { events } => put_head(alloc, out, b"end", &[*events]),
     }
-    out.push(b'\n')
 }
 
-fn put_learn_head(
+// Adds each of the numbers in decimal, after this byte.
+fn put_each(alloc: Global, out: &mut Octets, byte: u8, numbers: &[u64]) -> Result<(), Memory>
+    ensures { OnOk result (out.new ≡ out.old ++ flat_map (set_off byte) (map decimal numbers.now)) }
+{
+    for number in numbers {
+        out.push(byte)?;
+        out.extend(number.to_string(alloc)?.as_bytes())?;
+    }
+    Ok(())
+}
+
+// Adds the first word of a line, and numbers behind it.
+fn put_head(alloc: Global, out: &mut Octets, word: &[u8], numbers: &[u64]) -> Result<(), Memory>
+    ensures { OnOk result (out.new ≡ out.old ++ (word.now ++ flat_map spaced (map decimal numbers.now))) }
+{
+    out.extend(word)?;
+    put_each(alloc, out, b' ', numbers)
+}
+
+fn put_answer(
+    alloc: Global,
+    out: &mut Octets,
+    client: ClientId,
+    seq: u64,
+    reply: &Octets,
+) -> Result<(), Memory>
+    ensures { OnOk result (out.new ≡ out.old ++ joined (line_words (Answer client seq reply.now))) }
+{
+    put_head(alloc, out, b"answer", &[u64::from(client.0), seq])?;
+    put_hex(alloc, out, reply.bytes())
+}
+
+fn put_ballot_limit(
     alloc: Global,
     out: &mut Octets,
     node: NodeId,
     ring: RingId,
-    lo: Inst,
-    hi: Inst,
 ) -> Result<(), Memory>
-    ensures { OnOk result (out.new ≡ out.old ++ learn_head node ring lo hi) }
+    ensures { OnOk result (out.new ≡ out.old ++ joined (line_words (BallotLimit node ring))) }
 {
-    out.extend(b"learn")?;
-    put_number(alloc, out, u64::from(node.0))?;
-    put_number(alloc, out, u64::from(ring.0))?;
-    put_number(alloc, out, lo)?;
-    put_number(alloc, out, hi)
+    put_head(alloc, out, b"limit", &[u64::from(node.0)])?;
+    put_word(out, b"ballot")?;
+    put_number(alloc, out, u64::from(ring.0))
+}
+
+fn put_instance_limit(
+    alloc: Global,
+    out: &mut Octets,
+    node: NodeId,
+    ring: RingId,
+) -> Result<(), Memory>
+    ensures { OnOk result (out.new ≡ out.old ++ joined (line_words (InstanceLimit node ring))) }
+{
+    put_head(alloc, out, b"limit", &[u64::from(node.0)])?;
+    put_word(out, b"instance")?;
+    put_number(alloc, out, u64::from(ring.0))
 }
 
 fn put_value(alloc: Global, out: &mut Octets, value: &Value) -> Result<(), Memory>
@@ -80,8 +217,41 @@ fn put_value(alloc: Global, out: &mut Octets, value: &Value) -> Result<(), Memor
     }
 }
 
-fn put_shown(alloc: Global, out: &mut Octets, shown: &Option<ShownFrame>) -> Result<(), Memory>
-    ensures { OnOk result (out.new ≡ out.old ++ flat_map spaced (shown_words shown.now)) }
+// Adds the instances with commas between.
+fn put_tuple(alloc: Global, out: &mut Octets, tuple: &Instances) -> Result<(), Memory>
+    ensures { OnOk result (out.new ≡ out.old ++ spaced (tuple_text tuple.now)) }
+{
+    let Some((first, others)) = tuple.items().split_first() else {
+        return out.push(b' ');
+    };
+    put_number(alloc, out, *first)?;
+    put_each(alloc, out, b',', others)
+}
+
+fn put_cause(out: &mut Octets, cause: Cause) -> Result<(), Memory>
+    ensures { OnOk result (out.new ≡ out.old ++ spaced (cause_text cause)) }
+{
+    match cause {
+        Cause::Crash => put_word(out, b"crash"),
+        Cause::Disk => put_word(out, b"disk"),
+        Cause::Full => put_word(out, b"full"),
+    }
+}
+
+fn put_state(alloc: Global, out: &mut Octets, shown: &Option<ShownState>) -> Result<(), Memory>
+    ensures { OnOk result (out.new ≡ out.old ++ flat_map spaced (state_words shown.now)) }
+{
+    match shown {
+        None => put_word(out, b"-"),
+        Some(shown) => {
+            put_tuple(alloc, out, &shown.tuple)?;
+            put_hex(alloc, out, shown.bytes.bytes())
+        }
+    }
+}
+
+fn put_frame(alloc: Global, out: &mut Octets, shown: &Option<ShownFrame>) -> Result<(), Memory>
+    ensures { OnOk result (out.new ≡ out.old ++ flat_map spaced (frame_words shown.now)) }
 {
     match shown {
         None => put_word(out, b"none"),
