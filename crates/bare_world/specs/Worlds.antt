@@ -6,6 +6,7 @@ use Rattle.mrp_config.specs.Config.{Config}
 use Rattle.command_codec.specs.declared.command.Command.{Command}
 use Rattle.frames.specs.declared.body.Body.{Body}
 use Rattle.frames.specs.declared.sent.Sent.{Sent}
+use Rattle.transcript.specs.declared.line.ShownState.{ShownState}
 use Rattle.transcript.specs.declared.line.ShownFrame.{ShownFrame}
 use Rattle.vote_state.specs.State.{State, nothing_kept}
 use Rattle.vote_journal.specs.Journal.{Journal}
@@ -142,7 +143,7 @@ client_does id did w = with_lines did.lines (with_frames did.frames (with_client
 
 -- ---- a happening
 
-abbrev pub state_of_host : Host → Option (List ℕ × List ℕ)
+abbrev pub state_of_host : Host → Option ShownState
 state_of_host (Up view) = state_shown view
 state_of_host (Down durable pending) = None
 

@@ -6,7 +6,7 @@ use Rattle.mrp_types.specs.declared.place.Place.{Place}
 use Rattle.mrp_types.specs.declared.value.Value.{Value}
 use Rattle.mrp_types.specs.Book.{Learning, book_of, covers}
 use Rattle.transcript.specs.declared.line.Line.{Line}
-use Rattle.transcript.specs.declared.line.Line.TheVariants.{Learn, Deliver, Frame, End}
+use Rattle.transcript.specs.declared.line.Line.TheVariants.{Learn}
 use Rattle.plain_model.specs.Lines.{learnings, book, position_from, position_after}
 use Rattle.plain_model.specs.Faithful.{Order, IsFaithfulAfter}
 
@@ -28,9 +28,7 @@ pub learnings-append : (xs ys : List Line) → learnings (xs ++ ys) ≡ learning
 learnings-append [] ys = refl
 learnings-append (Learn node ring lo hi value ∷ xs) ys =
     ap (λ (l : List Learning). (record { ring = ring; lo = lo; hi = hi; value = value }) ∷ l) (learnings-append xs ys)
-learnings-append (Deliver node ring inst ∷ xs) ys = learnings-append xs ys
-learnings-append (Frame number shown ∷ xs) ys = learnings-append xs ys
-learnings-append (End events ∷ xs) ys = learnings-append xs ys
+learnings-append (other ∷ xs) ys = learnings-append xs ys
 
 -- what a test of the first learning leaves to the later ones
 first_or : (t : Bool) (value known : Value) (some more : Option Value) → (some ≡ Some known → more ≡ Some known) →

@@ -7,7 +7,7 @@ use Rattle.mrp_types.specs.declared.place.Place.{Place}
 use Rattle.mrp_types.specs.declared.value.Value.{Value}
 use Rattle.mrp_types.specs.declared.value.Value.TheVariants.{Skip, Batch}
 use Rattle.transcript.specs.declared.line.Line.{Line}
-use Rattle.transcript.specs.declared.line.Line.TheVariants.{Learn, Deliver, Frame, End}
+use Rattle.transcript.specs.declared.line.Line.TheVariants.{Learn, Deliver}
 use Rattle.plain_model.specs.Lines.{book, position_from}
 
 -- What the rules ask of a deployment: which nodes and rings it has; the rings to which a node subscribes, the number of each
@@ -51,8 +51,7 @@ pub record F2 (o : Order) (before : List Line) (node : NodeId) (place : Place) :
 abbrev pub IsFaithfulLine : Order → List Line → Line → Type 0
 IsFaithfulLine o before (Learn node ring lo hi value) = F1 o before node ring lo hi value
 IsFaithfulLine o before (Deliver node ring inst) = F2 o before node (record { ring = ring; inst = inst })
-IsFaithfulLine o before (Frame number shown) = Unit {0}
-IsFaithfulLine o before (End events) = Unit {0}
+IsFaithfulLine o before other = Unit {0}
 
 -- each line is faithful after those before it
 abbrev pub IsFaithfulAfter : Order → List Line → List Line → Type 0

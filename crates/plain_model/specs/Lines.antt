@@ -6,15 +6,13 @@ use Rattle.mrp_types.specs.declared.place.Place.{Place}
 use Rattle.mrp_types.specs.declared.value.Value.{Value}
 use Rattle.mrp_types.specs.Book.{Learning, book_of}
 use Rattle.transcript.specs.declared.line.Line.{Line}
-use Rattle.transcript.specs.declared.line.Line.TheVariants.{Learn, Deliver, Frame, End}
+use Rattle.transcript.specs.declared.line.Line.TheVariants.{Learn, Deliver}
 
 -- what the learn lines say, in order
 abbrev pub learnings : List Line → List Learning
 learnings [] = []
 learnings (Learn node ring lo hi value ∷ lines) = record { ring = ring; lo = lo; hi = hi; value = value } ∷ learnings lines
-learnings (Deliver node ring inst ∷ lines) = learnings lines
-learnings (Frame number shown ∷ lines) = learnings lines
-learnings (End events ∷ lines) = learnings lines
+learnings (other ∷ lines) = learnings lines
 
 -- the book: per ring and instance the value of the first learn line that covers it
 abbrev pub book : List Line → RingId → ℕ → Option Value
@@ -23,11 +21,9 @@ book lines ring inst = book_of (learnings lines) ring inst
 -- The place of each delivery of a node, by the number of the place among those of its rings: a line moves the position
 -- just past its place, and a line of another kind or node leaves it.
 abbrev pub position_after : (Place → ℕ) → NodeId → ℕ → Line → ℕ
-position_after number node now (Learn other ring lo hi value) = now
 position_after number node now (Deliver other ring inst) =
     if other.0 == node.0 then number (record { ring = ring; inst = inst }) + 1 else now
-position_after number node now (Frame at shown) = now
-position_after number node now (End events) = now
+position_after number node now other = now
 
 -- the position of a node after lines, from a position on
 abbrev pub position_from : (Place → ℕ) → NodeId → ℕ → List Line → ℕ
@@ -37,10 +33,8 @@ position_from number node now (line ∷ lines) = position_from number node (posi
 -- the instances that a node delivered, in order
 abbrev pub deliveries : NodeId → List Line → List ℕ
 deliveries node [] = []
-deliveries node (Learn other ring lo hi value ∷ lines) = deliveries node lines
 deliveries node (Deliver other ring inst ∷ lines) = if other.0 == node.0 then inst ∷ deliveries node lines else deliveries node lines
-deliveries node (Frame number shown ∷ lines) = deliveries node lines
-deliveries node (End events ∷ lines) = deliveries node lines
+deliveries node (other ∷ lines) = deliveries node lines
 
 -- so many numbers, one after another from the first on
 abbrev pub counted : ℕ → ℕ → List ℕ

@@ -25,7 +25,7 @@ use Rattle.frames.specs.declared.body.Body.{Body}
 use Rattle.frames.specs.declared.body.Body.TheVariants as bodies
 use Rattle.frames.specs.declared.sent.Sent.{Sent}
 use Rattle.protocol.specs.Lines.{Line}
-use Rattle.protocol.specs.Lines.Line.{Answer, Busy}
+use Rattle.protocol.specs.Lines.{Answer, Busy}
 
 -- A command without its answer: its number and ring, how many ticks passed since it was asked, how often it was sent again, and
 -- the replies of the partitions that replied, by partition.

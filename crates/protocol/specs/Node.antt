@@ -16,7 +16,7 @@ use Rattle.checkpoint.specs.Checks.{Checks, save_calls}
 use Rattle.plain_model.specs.Replicas.{Replica}
 use Rattle.plain_model.specs.StateBytes.{state_bytes}
 use Rattle.plain_model.specs.Tuples.{instances}
-use Rattle.protocol.specs.Lines.{Line}
+use Rattle.protocol.specs.Lines.{Line, ShownState}
 use Rattle.protocol.specs.Parts.{Ring, Part}
 
 -- ---- what a node keeps
@@ -165,14 +165,14 @@ with_stage service stage a = record a { view = record a.view { service = Some (r
 
 -- ---- what is shown of a node
 
-abbrev pub shown_of_stage : Stage → Option (List ℕ × List ℕ)
+abbrev pub shown_of_stage : Stage → Option ShownState
 shown_of_stage (Recovering attempt) = None
-shown_of_stage (Ready standing) = Some (instances standing.tuple, state_bytes standing.replica)
+shown_of_stage (Ready standing) = Some (record { tuple = instances standing.tuple; bytes = state_bytes standing.replica })
 
-abbrev pub shown_of : Option Service → Option (List ℕ × List ℕ)
+abbrev pub shown_of : Option Service → Option ShownState
 shown_of None = None
 shown_of (Some service) = shown_of_stage service.stage
 
 -- the tuple and the state's bytes of a ready replica
-abbrev pub state_shown : View → Option (List ℕ × List ℕ)
+abbrev pub state_shown : View → Option ShownState
 state_shown view = shown_of view.service

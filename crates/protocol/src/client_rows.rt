@@ -3,7 +3,7 @@
 ghost use Rattle.std.specs.Prelude.{◌≡◌, [], ◌∷◌, codes};
 ghost use Rattle.command_codec.specs.declared.command.Command.TheVariants.{Append};
 ghost use Rattle.plain_model.specs.Rows.{client, log};
-ghost use Rattle.protocol.specs.Lines.Line.{Answer, Busy};
+ghost use Rattle.protocol.specs.Lines.{Answer, Busy};
 ghost use Rattle.protocol.specs.Client.{missing};
 ghost use Rattle.protocol.specs.ClientRows.{Asks, Ticks, Replies, partition, two_parts, does_all, first_submit, append_hi, hi_bytes, scan_all, scan_bytes, one_entry, at_log_0};
 

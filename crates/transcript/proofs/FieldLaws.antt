@@ -24,7 +24,7 @@ use Rattle.mrp_types.specs.declared.value.Value.{Value}
 use Rattle.mrp_types.specs.declared.value.Value.TheVariants.{Skip, Batch}
 use Rattle.transcript.specs.Spelling.{value_text, tuple_text, party_text, IsCount, IsValue, AreBytes, AreInstances, IsParty}
 use Rattle.transcript.specs.Fields.{below, number_of, numbers_of, tuple_of, party_of, some_bytes, bytes_of, batch_value, value_of}
-use Rattle.transcript.proofs.WordLaws.{Field}
+use Rattle.transcript.proofs.WordLaws.{Field, none_low, lacks_low}
 
 -- where a test chose a value, it held
 then_was : {A : Type 0} (t : Bool) (x y : A) → (if t then Some x else None) ≡ Some y → (t ≡ true) × (x ≡ y)
@@ -59,7 +59,7 @@ pub number : (limit : ℕ) → limit ≤ 2 ^ 64 → Field (number_of limit) deci
 number limit most = record {
   read = λ n less. number_read limit n most less;
   was = number_was limit;
-  lacks = λ n less. lacks_decimal 32 n (lit< tt) (omega (arith, most, less));
+  lacks = λ byte low n less. lacks_decimal byte n (omega (arith, low)) (omega (arith, most, less));
 }
 
 pub id : Field (number_of 256) decimal (λ n. n < 256)
@@ -153,7 +153,7 @@ pub tuple : Field tuple_of tuple_text AreInstances
 tuple = record {
   read = tuple_read;
   was = tuple_was;
-  lacks = λ tuple are. lacks_joined 32 44 (λ same. omega (arith, same)) (map decimal tuple) (lacks_numbers 32 (lit< tt) tuple are.0);
+  lacks = λ byte low tuple are. lacks_joined byte 44 (λ same. omega (arith, same, low)) (map decimal tuple) (lacks_numbers byte (omega (arith, low)) tuple are.0);
 }
 
 dash_is_no_tuple : tuple_of (codes "-") ≡ None
@@ -198,9 +198,9 @@ party_was : (word : List ℕ) (party : Party) → party_of word ≡ Some party �
 party_was [] party h = absurd (grind arith)
 party_was (b ∷ digits) party h = by_letter (b == 110) (b == 99) b digits party refl refl h
 
-party_lacks : (party : Party) → IsParty party → Lacks 32 (party_text party)
-party_lacks (Node node) is = (λ same. omega (arith, same), id.lacks node.0 is)
-party_lacks (Client client) is = (λ same. omega (arith, same), id.lacks client.0 is)
+party_lacks : (byte : ℕ) → byte < 44 → (party : Party) → IsParty party → Lacks byte (party_text party)
+party_lacks byte low (Node node) is = (λ same. omega (arith, same, low), id.lacks byte low node.0 is)
+party_lacks byte low (Client client) is = (λ same. omega (arith, same, low), id.lacks byte low client.0 is)
 
 pub party : Field party_of party_text IsParty
 party = record { read = party_read; was = party_was; lacks = party_lacks }
@@ -236,7 +236,7 @@ unfolding bytes_of
 bytes_was word bytes h = bytes_found word bytes (hex_of word) refl h
 
 pub bytes : Field bytes_of encode_lower AreBytes
-bytes = record { read = bytes_read; was = bytes_was; lacks = λ bytes is. lacks_encoded 32 bytes (lit< tt) is.0 }
+bytes = record { read = bytes_read; was = bytes_was; lacks = λ byte low bytes is. lacks_encoded byte bytes (omega (arith, low)) is.0 }
 
 -- ---- values
 
@@ -287,9 +287,10 @@ by_skip false word value is h = batch_was (bytes_of word) word value refl h
 value_was : (word : List ℕ) (value : Value) → value_of word ≡ Some value → (word ≡ value_text value) × IsValue value
 value_was word value h = by_skip (bytes_eq word (codes "skip")) word value refl h
 
-value_lacks : (value : Value) → IsValue value → Lacks 32 (value_text value)
-value_lacks Skip is = (λ same. omega (arith, same), (λ same. omega (arith, same), (λ same. omega (arith, same), (λ same. omega (arith, same), tt))))
-value_lacks (Batch batch) is = lacks_encoded 32 batch (lit< tt) is.0
+value_lacks : (byte : ℕ) → byte < 44 → (value : Value) → IsValue value → Lacks byte (value_text value)
+unfolding none_low
+value_lacks byte low Skip is = lacks_low byte low (codes "skip") refl
+value_lacks byte low (Batch batch) is = lacks_encoded byte batch (omega (arith, low)) is.0
 
 pub value : Field value_of value_text IsValue
 value = record { read = value_read; was = value_was; lacks = value_lacks }

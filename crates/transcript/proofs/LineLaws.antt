@@ -1,5 +1,5 @@
 -- A line is read as it is spelled, and what is read is spelled so.
-use Rattle.std.proofs.Common.{arith, ◌≡◌, ◌<◌, ℕ, ◌^◌, List, [], ◌∷◌, ◌++◌, Option, Some, None, refl, sym, ap, ◌∙◌, subst, ◌==◌, if◌then◌else◌, Bool, true, false, codes, Ok, Err, append-nil}
+use Rattle.std.proofs.Common.{arith, lit<, ◌≡◌, ◌<◌, ℕ, ◌^◌, List, [], ◌∷◌, ◌++◌, Option, Some, None, refl, sym, ap, ◌∙◌, subst, ◌==◌, if◌then◌else◌, Bool, true, false, codes, Ok, Err, append-nil}
 use Rattle.std.specs.Prelude.{Result}
 use Rattle.std.specs.List.{AllByRecursion}
 use Rattle.std.specs.Result.{result_ok}
@@ -28,7 +28,7 @@ use Rattle.transcript.specs.Words.{Reader, both, shown, given, unless, by_key, e
 use Rattle.transcript.specs.Reading.{id_at, count_at, tuple_at, hex_at, value_at, party_at, learn_at, deliver_at, reply_at, answer_at, busy_at, begin_at, chose_at, restore_at, saved_at, trim_at, refuse_at, limit_line, limits, limit_of, limit_at, causes, cause_at, down_at, up_at, state_of, state_at, frame_of, frame_at, last_at, kinds_of_nodes, kinds_of_recovery, kinds, kind_at, line_in, onto_text, text_in, line_of_text, line_at, line_of}
 use Rattle.transcript.proofs.FieldLaws.{id, count, tuple, tuple_is_no_dash, party, party_is_no_none, bytes, value}
 use Rattle.transcript.proofs.FieldLaws as field
-use Rattle.transcript.proofs.WordLaws.{Words, Took, Viewed, Entry, AreEntries, done, done_is, alone, spell_both, IsBoth, one_words, both_words, viewed_was, given_was, keyed_was, unless_was, no_space, lacks_space}
+use Rattle.transcript.proofs.WordLaws.{Words, Took, Viewed, Entry, AreEntries, done, done_is, alone, spell_both, IsBoth, one_words, both_words, viewed_was, given_was, keyed_was, unless_was, none_low, lacks_low}
 
 -- ---- fields
 
@@ -81,11 +81,11 @@ limit_entries = (
   ),
 )
 
-limit_lacks : (limit : Limit) → IsLimit limit → AllByRecursion (Lacks 32) (limit_words limit)
-unfolding no_space
-limit_lacks (OfBallot ring) is = (lacks_space (codes "ballot") refl, ids.lacks ring is)
-limit_lacks (OfInstance ring) is = (lacks_space (codes "instance") refl, ids.lacks ring is)
-limit_lacks OfAttempt is = (lacks_space (codes "attempt") refl, tt)
+limit_lacks : (byte : ℕ) → byte < 44 → (limit : Limit) → IsLimit limit → AllByRecursion (Lacks byte) (limit_words limit)
+unfolding none_low
+limit_lacks byte low (OfBallot ring) is = (lacks_low byte low (codes "ballot") refl, ids.lacks byte low ring is)
+limit_lacks byte low (OfInstance ring) is = (lacks_low byte low (codes "instance") refl, ids.lacks byte low ring is)
+limit_lacks byte low OfAttempt is = (lacks_low byte low (codes "attempt") refl, tt)
 
 limit_was : (words : List (List ℕ)) (x : Limit × List (List ℕ)) → limit_of words ≡ Ok x → Took limit_words IsLimit words x
 unfolding limit_of
@@ -112,11 +112,11 @@ cause_entries = (
   (given_was (codes "disk" ∷ []) Disk cause_words IsCause refl tt, (given_was (codes "full" ∷ []) Full cause_words IsCause refl tt, tt)),
 )
 
-cause_lacks : (cause : Cause) → IsCause cause → AllByRecursion (Lacks 32) (cause_words cause)
-unfolding no_space
-cause_lacks Crash is = (lacks_space (codes "crash") refl, tt)
-cause_lacks Disk is = (lacks_space (codes "disk") refl, tt)
-cause_lacks Full is = (lacks_space (codes "full") refl, tt)
+cause_lacks : (byte : ℕ) → byte < 44 → (cause : Cause) → IsCause cause → AllByRecursion (Lacks byte) (cause_words cause)
+unfolding none_low
+cause_lacks byte low Crash is = (lacks_low byte low (codes "crash") refl, tt)
+cause_lacks byte low Disk is = (lacks_low byte low (codes "disk") refl, tt)
+cause_lacks byte low Full is = (lacks_low byte low (codes "full") refl, tt)
 
 cause_was : (words : List (List ℕ)) (x : Cause × List (List ℕ)) → cause_at words ≡ Ok x → Took cause_words IsCause words x
 unfolding cause_at
@@ -137,10 +137,10 @@ state_was words x h = unless_was state_words IsShownState (codes "-") None _
     (viewed_was [] (both tuple_at hex_at) _ _ (λ y. Some (record { tuple = y.0; bytes = y.1 })) state_words IsShownState (two tuples hexes) (record { spelled = λ y. refl; is = λ y is. is }))
     words x h
 
-state_lacks : (shown : Option ShownState) → IsShownState shown → AllByRecursion (Lacks 32) (state_words shown)
-unfolding no_space
-state_lacks None is = (lacks_space (codes "-") refl, tt)
-state_lacks (Some shown) is = (tuple.lacks shown.tuple is.0, (bytes.lacks shown.bytes is.1, tt))
+state_lacks : (byte : ℕ) → byte < 44 → (shown : Option ShownState) → IsShownState shown → AllByRecursion (Lacks byte) (state_words shown)
+unfolding none_low
+state_lacks byte low None is = (lacks_low byte low (codes "-") refl, tt)
+state_lacks byte low (Some shown) is = (tuple.lacks byte low shown.tuple is.0, (bytes.lacks byte low shown.bytes is.1, tt))
 
 state_law : Words state_of state_words IsShownState
 state_law = record { read = state_read; was = state_was; lacks = state_lacks }
@@ -158,10 +158,10 @@ frame_was words x h = unless_was frame_words IsShownFrame (codes "none") None _
     (record { spelled = λ y. refl; is = λ y is. is }))
     words x h
 
-frame_lacks : (shown : Option ShownFrame) → IsShownFrame shown → AllByRecursion (Lacks 32) (frame_words shown)
-unfolding no_space
-frame_lacks None is = (lacks_space (codes "none") refl, tt)
-frame_lacks (Some shown) is = (party.lacks shown.from is.0, (party.lacks shown.to is.1.0, (bytes.lacks shown.bytes is.1.1, tt)))
+frame_lacks : (byte : ℕ) → byte < 44 → (shown : Option ShownFrame) → IsShownFrame shown → AllByRecursion (Lacks byte) (frame_words shown)
+unfolding none_low
+frame_lacks byte low None is = (lacks_low byte low (codes "none") refl, tt)
+frame_lacks byte low (Some shown) is = (party.lacks byte low shown.from is.0, (party.lacks byte low shown.to is.1.0, (bytes.lacks byte low shown.bytes is.1.1, tt)))
 
 frame_law : Words frame_of frame_words IsShownFrame
 frame_law = record { read = frame_read; was = frame_was; lacks = frame_lacks }
@@ -280,29 +280,29 @@ kind_was : (words : List (List ℕ)) (x : Line × List (List ℕ)) → kind_at w
 unfolding kind_at
 kind_was words x h = keyed_was line_words IsLine kinds entries words x h
 
-lacks : (line : Line) → IsLine line → AllByRecursion (Lacks 32) (line_words line)
-unfolding no_space
-lacks (Learn node ring lo hi decided) is = (lacks_space (codes "learn") refl, (two ids (two ids (two counts (two counts values)))).lacks (node.0, (ring.0, (lo, (hi, decided)))) is)
-lacks (Deliver node ring inst) is = (lacks_space (codes "deliver") refl, (two ids (two ids counts)).lacks (node.0, (ring.0, inst)) is)
-lacks (Reply node ring inst index client seq reply) is =
-    (lacks_space (codes "reply") refl, (two ids (two ids (two counts (two counts (two ids (two counts hexes)))))).lacks (node.0, (ring.0, (inst, (index, (client.0, (seq, reply)))))) is)
-lacks (Answer client seq reply) is = (lacks_space (codes "answer") refl, (two ids (two counts hexes)).lacks (client.0, (seq, reply)) is)
-lacks (Busy client seq) is = (lacks_space (codes "busy") refl, (two ids counts).lacks (client.0, seq) is)
-lacks (Begin node epoch attempt at) is = (lacks_space (codes "begin") refl, (two ids (two counts (two counts tuples))).lacks (node.0, (epoch, (attempt, at))) is)
-lacks (Chose node epoch attempt at from) is = (lacks_space (codes "chose") refl, (two ids (two counts (two counts (two tuples ids)))).lacks (node.0, (epoch, (attempt, (at, from.0)))) is)
-lacks (Restore node at) is = (lacks_space (codes "restore") refl, (two ids tuples).lacks (node.0, at) is)
-lacks (Saved node at) is = (lacks_space (codes "saved") refl, (two ids tuples).lacks (node.0, at) is)
-lacks (Trim node ring inst) is = (lacks_space (codes "trim") refl, (two ids (two ids counts)).lacks (node.0, (ring.0, inst)) is)
-lacks (Refuse node epoch attempt answered needed) is =
-    (lacks_space (codes "refuse") refl, (two ids (two counts (two counts (two counts counts)))).lacks (node.0, (epoch, (attempt, (answered, needed)))) is)
-lacks (BallotLimit node ring) is = (lacks_space (codes "limit") refl, (two ids limit_law).lacks (node.0, OfBallot ring.0) is)
-lacks (InstanceLimit node ring) is = (lacks_space (codes "limit") refl, (two ids limit_law).lacks (node.0, OfInstance ring.0) is)
-lacks (AttemptLimit node) is = (lacks_space (codes "limit") refl, (two ids limit_law).lacks (node.0, OfAttempt) is)
-lacks (Down node cause) is = (lacks_space (codes "down") refl, (two ids cause_law).lacks (node.0, cause) is)
-lacks (Up node epoch) is = (lacks_space (codes "up") refl, (two ids counts).lacks (node.0, epoch) is)
-lacks (State node found) is = (lacks_space (codes "state") refl, (two ids state_law).lacks (node.0, found) is)
-lacks (Frame number found) is = (lacks_space (codes "frame") refl, (two counts frame_law).lacks (number, found) is)
-lacks (End events) is = (lacks_space (codes "end") refl, counts.lacks events is)
+lacks : (byte : ℕ) → byte < 44 → (line : Line) → IsLine line → AllByRecursion (Lacks byte) (line_words line)
+unfolding none_low
+lacks byte low (Learn node ring lo hi decided) is = (lacks_low byte low (codes "learn") refl, (two ids (two ids (two counts (two counts values)))).lacks byte low (node.0, (ring.0, (lo, (hi, decided)))) is)
+lacks byte low (Deliver node ring inst) is = (lacks_low byte low (codes "deliver") refl, (two ids (two ids counts)).lacks byte low (node.0, (ring.0, inst)) is)
+lacks byte low (Reply node ring inst index client seq reply) is =
+    (lacks_low byte low (codes "reply") refl, (two ids (two ids (two counts (two counts (two ids (two counts hexes)))))).lacks byte low (node.0, (ring.0, (inst, (index, (client.0, (seq, reply)))))) is)
+lacks byte low (Answer client seq reply) is = (lacks_low byte low (codes "answer") refl, (two ids (two counts hexes)).lacks byte low (client.0, (seq, reply)) is)
+lacks byte low (Busy client seq) is = (lacks_low byte low (codes "busy") refl, (two ids counts).lacks byte low (client.0, seq) is)
+lacks byte low (Begin node epoch attempt at) is = (lacks_low byte low (codes "begin") refl, (two ids (two counts (two counts tuples))).lacks byte low (node.0, (epoch, (attempt, at))) is)
+lacks byte low (Chose node epoch attempt at from) is = (lacks_low byte low (codes "chose") refl, (two ids (two counts (two counts (two tuples ids)))).lacks byte low (node.0, (epoch, (attempt, (at, from.0)))) is)
+lacks byte low (Restore node at) is = (lacks_low byte low (codes "restore") refl, (two ids tuples).lacks byte low (node.0, at) is)
+lacks byte low (Saved node at) is = (lacks_low byte low (codes "saved") refl, (two ids tuples).lacks byte low (node.0, at) is)
+lacks byte low (Trim node ring inst) is = (lacks_low byte low (codes "trim") refl, (two ids (two ids counts)).lacks byte low (node.0, (ring.0, inst)) is)
+lacks byte low (Refuse node epoch attempt answered needed) is =
+    (lacks_low byte low (codes "refuse") refl, (two ids (two counts (two counts (two counts counts)))).lacks byte low (node.0, (epoch, (attempt, (answered, needed)))) is)
+lacks byte low (BallotLimit node ring) is = (lacks_low byte low (codes "limit") refl, (two ids limit_law).lacks byte low (node.0, OfBallot ring.0) is)
+lacks byte low (InstanceLimit node ring) is = (lacks_low byte low (codes "limit") refl, (two ids limit_law).lacks byte low (node.0, OfInstance ring.0) is)
+lacks byte low (AttemptLimit node) is = (lacks_low byte low (codes "limit") refl, (two ids limit_law).lacks byte low (node.0, OfAttempt) is)
+lacks byte low (Down node cause) is = (lacks_low byte low (codes "down") refl, (two ids cause_law).lacks byte low (node.0, cause) is)
+lacks byte low (Up node epoch) is = (lacks_low byte low (codes "up") refl, (two ids counts).lacks byte low (node.0, epoch) is)
+lacks byte low (State node found) is = (lacks_low byte low (codes "state") refl, (two ids state_law).lacks byte low (node.0, found) is)
+lacks byte low (Frame number found) is = (lacks_low byte low (codes "frame") refl, (two counts frame_law).lacks byte low (number, found) is)
+lacks byte low (End events) is = (lacks_low byte low (codes "end") refl, counts.lacks byte low events is)
 
 -- ---- all words of a line
 
@@ -316,7 +316,7 @@ never_none line is none =
     wrong h = absurd cc
 
 spelled_words : (line : Line) → IsLine line → words_of (joined (line_words line)) ≡ line_words line
-spelled_words line is = by (line_words line) refl (lacks line is)
+spelled_words line is = by (line_words line) refl (lacks 32 (lit< tt) line is)
   where
     by : (words : List (List ℕ)) → line_words line ≡ words → AllByRecursion (Lacks 32) words → words_of (joined words) ≡ words
     by [] e all = absurd (never_none line is e)

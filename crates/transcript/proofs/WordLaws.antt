@@ -24,11 +24,11 @@ done_is x y h = cc
 -- ---- a word
 
 -- A kind of word: values that may be are read as they are spelled, what is read is spelled so and may be, and no
--- spelling has a space.
+-- spelling has a byte below that of a comma, as a space and a line feed are.
 pub record Field {V : Type 0} (says : List ℕ → Option V) (spell : V → List ℕ) (Is : V → Type 0) : Type 0 where
   pub read : (v : V) → Is v → says (spell v) ≡ Some v
   pub was : (word : List ℕ) (v : V) → says word ≡ Some v → (word ≡ spell v) × Is v
-  pub lacks : (v : V) → Is v → Lacks 32 (spell v)
+  pub lacks : (byte : ℕ) → byte < 44 → (v : V) → Is v → Lacks byte (spell v)
 
 -- ---- words
 
@@ -41,7 +41,7 @@ pub record Took {V : Type 0} (spell : V → List (List ℕ)) (Is : V → Type 0)
 pub record Words {V : Type 0} (reader : Reader V) (spell : V → List (List ℕ)) (Is : V → Type 0) : Type 0 where
   pub read : (v : V) (rest : List (List ℕ)) → Is v → reader (spell v ++ rest) ≡ Ok (v, rest)
   pub was : (words : List (List ℕ)) (x : V × List (List ℕ)) → reader words ≡ Ok x → Took spell Is words x
-  pub lacks : (v : V) → Is v → AllByRecursion (Lacks 32) (spell v)
+  pub lacks : (byte : ℕ) → byte < 44 → (v : V) → Is v → AllByRecursion (Lacks byte) (spell v)
 
 -- the spelling of one word
 abbrev pub alone : {V : Type 0} → (V → List ℕ) → V → List (List ℕ)
@@ -67,7 +67,7 @@ pub one_words : {V : Type 0} (says : List ℕ → Option V) (spell : V → List 
 one_words says spell Is field kind = record {
   read = λ v rest is. rw (field.read v is) refl;
   was = one_was says spell Is field kind;
-  lacks = λ v is. (field.lacks v is, tt);
+  lacks = λ byte low v is. (field.lacks byte low v is, tt);
 }
 
 -- ---- one after the other
@@ -78,9 +78,9 @@ spell_both first second x = first x.0 ++ second x.1
 abbrev pub IsBoth : {A B : Type 0} → (A → Type 0) → (B → Type 0) → A × B → Type 0
 IsBoth First Second x = First x.0 × Second x.1
 
-lacks_both : (first second : List (List ℕ)) → AllByRecursion (Lacks 32) first → AllByRecursion (Lacks 32) second → AllByRecursion (Lacks 32) (first ++ second)
-lacks_both [] second a b = b
-lacks_both (word ∷ first) second a b = (a.0, lacks_both first second a.1 b)
+lacks_both : (byte : ℕ) (first second : List (List ℕ)) → AllByRecursion (Lacks byte) first → AllByRecursion (Lacks byte) second → AllByRecursion (Lacks byte) (first ++ second)
+lacks_both byte [] second a b = b
+lacks_both byte (word ∷ first) second a b = (a.0, lacks_both byte first second a.1 b)
 
 module _ {A B : Type 0} (first : Reader A) (second : Reader B) (spell : A → List (List ℕ)) (tell : B → List (List ℕ)) (Is : A → Type 0) (Are : B → Type 0)
     (one : Words first spell Is) (other : Words second tell Are) where
@@ -104,7 +104,7 @@ module _ {A B : Type 0} (first : Reader A) (second : Reader B) (spell : A → Li
   both_words = record {
     read = both_read;
     was = both_was;
-    lacks = λ v is. lacks_both (spell v.0) (tell v.1) (one.lacks v.0 is.0) (other.lacks v.1 is.1);
+    lacks = λ byte low v is. lacks_both byte (spell v.0) (tell v.1) (one.lacks byte low v.0 is.0) (other.lacks byte low v.1 is.1);
   }
 
 -- ---- another view
@@ -159,18 +159,18 @@ unless_was {V} spell Is key v other first second (word ∷ words) x h = by (byte
     by true is read = subst (λ (w : List ℕ). Took spell Is (w ∷ words) x) (sym ((bytes_eq-Decides word key).0 is)) (first words x read)
     by false is read = second (word ∷ words) x read
 
--- ---- no space
+-- ---- no low byte
 
-unfoldable pub no_space : List ℕ → Bool
-no_space [] = true
-no_space (b ∷ rest) = nat_lt 32 b && no_space rest
+unfoldable pub none_low : List ℕ → Bool
+none_low [] = true
+none_low (b ∷ rest) = nat_lt 43 b && none_low rest
 
-pub lacks_space : (word : List ℕ) → no_space word ≡ true → Lacks 32 word
-unfolding no_space
-lacks_space [] test = tt
-lacks_space (b ∷ rest) test =
-    let tests = both_tests (nat_lt 32 b) (no_space rest) test in
-    (λ same. grind (arith, tests.0, same), lacks_space rest tests.1)
+pub lacks_low : (byte : ℕ) → byte < 44 → (word : List ℕ) → none_low word ≡ true → Lacks byte word
+unfolding none_low
+lacks_low byte low [] test = tt
+lacks_low byte low (b ∷ rest) test =
+    let tests = both_tests (nat_lt 43 b) (none_low rest) test in
+    (λ same. grind (arith, tests.0, same, low), lacks_low byte low rest tests.1)
 
 -- ---- the words of a reader of lines
 

@@ -6,7 +6,7 @@ use Rattle.mrp_types.specs.declared.place.Place.{Place}
 use Rattle.mrp_types.specs.declared.value.Value.TheVariants.{Batch}
 use Rattle.transcript.specs.declared.line.Line.{Line}
 use Rattle.transcript.specs.declared.line.ShownFrame.{ShownFrame}
-use Rattle.transcript.specs.declared.line.Line.TheVariants.{Learn, Deliver, Frame, End}
+use Rattle.transcript.specs.declared.line.Line.TheVariants.{Learn, Deliver, Frame}
 use Rattle.plain_model.specs.Lines.{book, position_after, deliveries, counted}
 use Rattle.plain_model.specs.Faithful.{F1, F2, IsFaithfulLine, IsFaithfulAfter, position}
 use Rattle.plain_model.proofs.Fronts.{position_from-append}
@@ -23,8 +23,7 @@ pub record Next (table : RingTable) (before : List Line) (node : NodeId) (ring :
 abbrev pub IsExactLine : RingTable → List Line → Line → Type 0
 IsExactLine table before (Learn node ring lo hi value) = F1 (order_of table) before node ring lo hi value
 IsExactLine table before (Deliver node ring inst) = Next table before node ring inst
-IsExactLine table before (Frame number shown) = Unit {0}
-IsExactLine table before (End events) = Unit {0}
+IsExactLine table before other = Unit {0}
 
 abbrev pub IsExactAfter : RingTable → List Line → List Line → Type 0
 IsExactAfter table before [] = Unit {0}
@@ -55,8 +54,7 @@ next_is_faithful table before node ring inst n =
 line_is_faithful : (table : RingTable) (before : List Line) (line : Line) → IsExactLine table before line → IsFaithfulLine (order_of table) before line
 line_is_faithful table before (Learn node ring lo hi value) is = is
 line_is_faithful table before (Deliver node ring inst) is = next_is_faithful table before node ring inst is
-line_is_faithful table before (Frame number shown) is = tt
-line_is_faithful table before (End events) is = tt
+line_is_faithful table before other is = tt
 
 pub exact_is_faithful : (table : RingTable) (before lines : List Line) → IsExactAfter table before lines → IsFaithfulAfter (order_of table) before lines
 exact_is_faithful table before [] are = tt
@@ -93,16 +91,9 @@ in_turn_test table false before rest node other inst test next later = later
 pub in_turn : (table : RingTable) (before lines : List Line) (node : NodeId) → IsExactAfter table before lines →
     deliveries node lines ≡ counted (position (order_of table) before node) (length (deliveries node lines))
 in_turn table before [] node are = refl
-in_turn table before (Learn other ring lo hi value ∷ rest) node are =
-    let line = Learn other ring lo hi value in
-    in_turn table (before ++ line ∷ []) rest node are.1 ∙ ap (λ n. counted n (length (deliveries node rest))) (stands_after table before line node)
 in_turn table before (Deliver other ring inst ∷ rest) node are =
     let line = Deliver other ring inst in
     in_turn_test table (other.0 == node.0) before rest node other inst refl are.0.next
     (in_turn table (before ++ line ∷ []) rest node are.1 ∙ ap (λ n. counted n (length (deliveries node rest))) (stands_after table before line node))
-in_turn table before (Frame number shown ∷ rest) node are =
-    let line = Frame number shown in
-    in_turn table (before ++ line ∷ []) rest node are.1 ∙ ap (λ n. counted n (length (deliveries node rest))) (stands_after table before line node)
-in_turn table before (End events ∷ rest) node are =
-    let line = End events in
+in_turn table before (line ∷ rest) node are =
     in_turn table (before ++ line ∷ []) rest node are.1 ∙ ap (λ n. counted n (length (deliveries node rest))) (stands_after table before line node)

@@ -13,7 +13,7 @@ use Rattle.mrp_types.specs.declared.value.Value.{Value}
 use Rattle.mrp_types.specs.declared.value.Value.TheVariants.{Batch}
 use Rattle.mrp_types.specs.Book.{Learning, book_of, covers}
 use Rattle.transcript.specs.declared.line.Line.{Line}
-use Rattle.transcript.specs.declared.line.Line.TheVariants.{Learn, Deliver, Frame, End}
+use Rattle.transcript.specs.declared.line.Line.TheVariants.{Learn}
 use Rattle.plain_model.specs.Lines.{learnings, book}
 use Rattle.plain_model.specs.Faithful.{position}
 use Rattle.plain_model.proofs.Fronts.{learnings-append, book-more}
@@ -48,15 +48,11 @@ one_of values inst v w first second = first.batch ∙ sym second.batch
 -- a learn line has the proposed batch of its instance
 abbrev pub LineOf : RingTable → List (List ℕ) → Line → Type 0
 LineOf table values (Learn node ring lo hi value) = (ring ≡ table.id) × (hi ≡ lo + 1) × IsOf values lo value
-LineOf table values (Deliver node ring inst) = Unit {0}
-LineOf table values (Frame number shown) = Unit {0}
-LineOf table values (End events) = Unit {0}
+LineOf table values other = Unit {0}
 
 line_more : (table : RingTable) (values more : List (List ℕ)) (line : Line) → LineOf table values line → LineOf table (values ++ more) line
 line_more table values more (Learn node ring lo hi value) is = (is.0, is.1, IsOf-more values more lo value is.2)
-line_more table values more (Deliver node ring inst) is = tt
-line_more table values more (Frame number shown) is = tt
-line_more table values more (End events) is = tt
+line_more table values more other is = tt
 
 pub lines_more : (table : RingTable) (values more : List (List ℕ)) (lines : List Line) → AllByRecursion (LineOf table values) lines → AllByRecursion (LineOf table (values ++ more)) lines
 lines_more table values more [] are = tt
@@ -88,9 +84,7 @@ book_is table values [] ring inst known are h = absurd (grind arith)
 book_is table values (Learn node other lo hi value ∷ lines) ring inst known are h =
     by_cover (covers (record { ring = other; lo = lo; hi = hi; value = value }) ring inst) values ring inst (record { ring = other; lo = lo; hi = hi; value = value })
     (book lines ring inst) known refl are.0.1 are.0.2 (book_is table values lines ring inst known are.1) h
-book_is table values (Deliver node other at ∷ lines) ring inst known are h = book_is table values lines ring inst known are.1 h
-book_is table values (Frame number shown ∷ lines) ring inst known are h = book_is table values lines ring inst known are.1 h
-book_is table values (End events ∷ lines) ring inst known are h = book_is table values lines ring inst known are.1 h
+book_is table values (line ∷ lines) ring inst known are h = book_is table values lines ring inst known are.1 h
 
 -- ---- a learn line is in the book
 

@@ -16,6 +16,7 @@ use Rattle.command_codec.specs.declared.command.Command.{Command}
 use Rattle.frames.specs.declared.body.Body.{Body}
 use Rattle.frames.specs.declared.sent.Sent.{Sent}
 use Rattle.frames.specs.Spelling.{frame_bytes}
+use Rattle.transcript.specs.declared.line.ShownState.{ShownState}
 use Rattle.transcript.specs.declared.line.ShownFrame.{ShownFrame}
 use Rattle.disk_model.specs.declared.areas.Areas.{Areas}
 use Rattle.disk_model.specs.declared.call.Call.{Call}
@@ -249,7 +250,7 @@ faults_at sets id (Some host) w = with_node id (with_faults sets host) w
 abbrev pub faults : (Plan → Plan) → NodeId → World → World
 faults sets id w = faults_at sets id (node_at w id) w
 
-abbrev pub state_of_host : Option Host → Option (List ℕ × List ℕ)
+abbrev pub state_of_host : Option Host → Option ShownState
 state_of_host None = None
 state_of_host (Some (Down told plan)) = None
 state_of_host (Some (Up view disk)) = state_shown view
