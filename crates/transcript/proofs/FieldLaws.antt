@@ -8,9 +8,9 @@ use Rattle.std.specs.List.{AllByRecursion, flat_map}
 use Rattle.std.specs.Option.{option_map, option_and_then}
 use Rattle.std.specs.Str.{bytes_eq}
 use Rattle.std.specs.Fmt.{decimal}
-use Rattle.hex.specs.Hex.{encode_lower, decode_pairs, IsBytes}
+use Rattle.hex.specs.Hex.{encode_lower, decode_pairs}
 use Rattle.text_lines.specs.Split.{pieces_of, onto_first}
-use Rattle.text_lines.specs.Text.{set_off, joined_by, hex_text}
+use Rattle.text_lines.specs.Text.{set_off, joined_by}
 use Rattle.text_lines.specs.Reading.{number_of as decimal_of, hex_of}
 use Rattle.text_lines.specs.declared.fault.TextFault.{TextFault}
 use Rattle.text_lines.proofs.Laws.{Lacks, pieces_of_joined, joined_pieces_of}
@@ -104,7 +104,7 @@ lacks_set_off : (byte comma : ℕ) → comma ≢ byte → (pieces : List (List �
 lacks_set_off byte comma apart [] are = tt
 lacks_set_off byte comma apart (piece ∷ pieces) are = (apart, lacks_after byte piece (flat_map (set_off comma) pieces) are.0 (lacks_set_off byte comma apart pieces are.1))
 
-lacks_joined : (byte comma : ℕ) → comma ≢ byte → (pieces : List (List ℕ)) → AllByRecursion (Lacks byte) pieces → Lacks byte (joined_by comma pieces)
+pub lacks_joined : (byte comma : ℕ) → comma ≢ byte → (pieces : List (List ℕ)) → AllByRecursion (Lacks byte) pieces → Lacks byte (joined_by comma pieces)
 lacks_joined byte comma apart [] are = tt
 lacks_joined byte comma apart (piece ∷ pieces) are = lacks_after byte piece (flat_map (set_off comma) pieces) are.0 (lacks_set_off byte comma apart pieces are.1)
 

@@ -1,3 +1,4 @@
 pub mod WordLaws
 pub mod FieldLaws
 pub mod LineLaws
+pub mod WholeLaws

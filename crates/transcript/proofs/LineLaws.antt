@@ -1,12 +1,10 @@
 -- A line is read as it is spelled, and what is read is spelled so.
-use Rattle.std.proofs.Common.{arith, lit<, ◌≡◌, ◌<◌, ℕ, ◌^◌, List, [], ◌∷◌, ◌++◌, Option, Some, None, refl, sym, ap, ◌∙◌, subst, ◌==◌, if◌then◌else◌, Bool, true, false, codes, Ok, Err, append-nil}
+use Rattle.std.proofs.Common.{arith, lit<, ◌≡◌, ◌<◌, ℕ, List, [], ◌∷◌, ◌++◌, Option, Some, None, refl, sym, ap, ◌∙◌, subst, ◌==◌, if◌then◌else◌, Bool, true, false, codes, Ok, Err, append-nil}
 use Rattle.std.specs.Prelude.{Result}
 use Rattle.std.specs.List.{AllByRecursion}
 use Rattle.std.specs.Result.{result_ok}
 use Rattle.std.specs.Fmt.{decimal}
 use Rattle.hex.specs.Hex.{encode_lower}
-use Rattle.mrp_types.specs.declared.id.Party.{Party}
-use Rattle.mrp_types.specs.declared.value.Value.{Value}
 use Rattle.mrp_types.proofs.TestLemmas.{some_is}
 use Rattle.text_lines.specs.Split.{words_of}
 use Rattle.text_lines.specs.Text.{joined}
@@ -24,11 +22,10 @@ use Rattle.transcript.specs.declared.kinds.Limit.TheVariants.{Ballot as OfBallot
 use Rattle.transcript.specs.declared.line.ShownState.{ShownState}
 use Rattle.transcript.specs.declared.line.ShownFrame.{ShownFrame}
 use Rattle.transcript.specs.Spelling.{value_text, tuple_text, party_text, cause_text, state_words, frame_words, line_words, line_bytes, IsId, IsCount, IsValue, AreBytes, AreInstances, IsParty, IsShownState, IsShownFrame, IsLine}
-use Rattle.transcript.specs.Words.{Reader, both, shown, given, unless, by_key, end_at}
-use Rattle.transcript.specs.Reading.{id_at, count_at, tuple_at, hex_at, value_at, party_at, learn_at, deliver_at, reply_at, answer_at, busy_at, begin_at, chose_at, restore_at, saved_at, trim_at, refuse_at, limit_line, limits, limit_of, limit_at, causes, cause_at, down_at, up_at, state_of, state_at, frame_of, frame_at, last_at, kinds_of_nodes, kinds_of_recovery, kinds, kind_at, line_in, onto_text, text_in, line_of_text, line_at, line_of}
+use Rattle.transcript.specs.Words.{Reader, both, shown, end_at}
+use Rattle.transcript.specs.Reading.{id_at, count_at, tuple_at, hex_at, value_at, party_at, learn_at, deliver_at, reply_at, answer_at, busy_at, begin_at, chose_at, restore_at, saved_at, trim_at, refuse_at, limit_line, limits, limit_of, limit_at, causes, cause_at, down_at, up_at, state_of, state_at, frame_of, frame_at, last_at, kinds_of_nodes, kinds_of_recovery, kinds, kind_at, line_in, onto_text, text_in, line_at, line_of}
 use Rattle.transcript.proofs.FieldLaws.{id, count, tuple, tuple_is_no_dash, party, party_is_no_none, bytes, value}
-use Rattle.transcript.proofs.FieldLaws as field
-use Rattle.transcript.proofs.WordLaws.{Words, Took, Viewed, Entry, AreEntries, done, done_is, alone, spell_both, IsBoth, one_words, both_words, viewed_was, given_was, keyed_was, unless_was, none_low, lacks_low}
+use Rattle.transcript.proofs.WordLaws.{Words, Took, Entry, AreEntries, done, done_is, alone, spell_both, IsBoth, one_words, both_words, viewed_was, given_was, keyed_was, unless_was, none_low, lacks_low}
 
 -- ---- fields
 
@@ -280,7 +277,7 @@ kind_was : (words : List (List ℕ)) (x : Line × List (List ℕ)) → kind_at w
 unfolding kind_at
 kind_was words x h = keyed_was line_words IsLine kinds entries words x h
 
-lacks : (byte : ℕ) → byte < 44 → (line : Line) → IsLine line → AllByRecursion (Lacks byte) (line_words line)
+pub lacks : (byte : ℕ) → byte < 44 → (line : Line) → IsLine line → AllByRecursion (Lacks byte) (line_words line)
 unfolding none_low
 lacks byte low (Learn node ring lo hi decided) is = (lacks_low byte low (codes "learn") refl, (two ids (two ids (two counts (two counts values)))).lacks byte low (node.0, (ring.0, (lo, (hi, decided)))) is)
 lacks byte low (Deliver node ring inst) is = (lacks_low byte low (codes "deliver") refl, (two ids (two ids counts)).lacks byte low (node.0, (ring.0, inst)) is)

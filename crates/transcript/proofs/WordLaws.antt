@@ -1,6 +1,5 @@
 -- Readers of words, and how what they read is spelled.
 use Rattle.std.proofs.Common.{arith, ◌≡◌, ◌<◌, ℕ, List, [], ◌∷◌, ◌++◌, Option, Some, None, refl, sym, ap, ◌∙◌, subst, if◌then◌else◌, Bool, true, false, append_assoc, nat_lt, ◌&&◌, Ok, Err}
-use Rattle.std.proofs.Math.Path.{ap₂}
 use Rattle.std.proofs.lemmas.Slice.Eq.{bytes_eq-Decides}
 use Rattle.std.specs.Prelude.{Result}
 use Rattle.std.specs.List.{AllByRecursion}
@@ -13,7 +12,7 @@ use Rattle.text_lines.proofs.Laws.{Lacks}
 use Rattle.mrp_types.proofs.TestLemmas.{both as both_tests}
 use Rattle.transcript.specs.declared.fault.LineKind.{LineKind}
 use Rattle.transcript.specs.declared.fault.LineKind.TheVariants.{Word}
-use Rattle.transcript.specs.Words.{Reader, word_at, one, both, shown, given, unless, by_key, end_at}
+use Rattle.transcript.specs.Words.{Reader, word_at, one, both, shown, given, unless, by_key}
 
 abbrev pub done : {A : Type 0} → A → Result A LineKind
 done x = Ok x

@@ -1,5 +1,4 @@
-use Rattle.std.proofs.Common.{sym, ap, ◌∙◌, true, ℕ, List}
-use Rattle.transcript.specs.Reading.{text_in}
+use Rattle.std.proofs.Common.{sym}
 use Rattle.transcript.proofs.LineLaws.{text_of_feed, text_of_other}
 use Rattle.transcript.proofs.reading.text_of.Goals as goal
 
