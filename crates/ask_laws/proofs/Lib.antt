@@ -11,3 +11,5 @@ pub mod Commands
 pub mod Clients
 pub mod Asking
 pub mod Worlds
+pub mod Told
+pub mod Reading

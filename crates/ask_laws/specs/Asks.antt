@@ -1,5 +1,5 @@
 -- What clients were told to ask in a run, and which entries were asked.
-use Rattle.std.specs.Prelude.{◌≡◌, ◌<◌, ◌≤◌, ◌+◌, ◌^◌, ℕ, ◌==◌, nat_lt, ◌&&◌, Bool, true, false, if◌then◌else◌, List, [], ◌∷◌, Option, Some, None, Result, Ok, Err}
+use Rattle.std.specs.Prelude.{◌++◌, ◌≡◌, ◌<◌, ◌≤◌, ◌+◌, ◌^◌, ℕ, ◌==◌, nat_lt, ◌&&◌, Bool, true, false, if◌then◌else◌, List, [], ◌∷◌, Option, Some, None, Result, Ok, Err}
 use Rattle.std.specs.List.{AllByRecursion}
 use Rattle.hex.specs.Hex.{IsBytes}
 use Rattle.mrp_types.specs.declared.id.ClientId.{ClientId}
@@ -16,7 +16,7 @@ use Rattle.mrp_config.specs.Routing.{concerned_of, route_of}
 use Rattle.protocol.specs.Lines.{Line, Learn}
 use Rattle.protocol.specs.Client.{Asked, ClientView}
 use Rattle.bare_world.specs.Worlds.{World, Happening, Asks, happens, nothing}
-use Rattle.bare_world.specs.Runs.{IsClient}
+use Rattle.bare_world.specs.Runs.{IsClient, run}
 
 -- ---- what was asked in a run
 
@@ -50,6 +50,14 @@ asked_after config (h ∷ hs) w asked = asked_after config hs (happens config h 
 -- in a run from nothing
 abbrev pub asked_in : Config → List Happening → ℕ → ℕ → Option Command
 asked_in config hs = asked_after config hs nothing (λ c s. None)
+
+-- At some time in the run the client was told to ask this command; it waited for no answer then, and this was its next number.
+pub record WasTold (config : Config) (hs : List Happening) (w : World) (c s : ℕ) (command : Command) : Type 0 where
+  pub before : List Happening
+  pub after : List Happening
+  pub parts : hs ≡ before ++ Asks (record { 0 = c }) command ∷ after
+  pub free : ((run config before w).clients c).asked ≡ None
+  pub number : ((run config before w).clients c).next ≡ s
 
 -- ---- entries
 
