@@ -1,9 +1,8 @@
 -- The words of the acceptor's table carry what was there and what came.
-use Rattle.std.proofs.Common.{◌≡◌, ℕ, ◌-◌, Bool, true, false, ◌||◌, List, [], ◌∷◌, ◌++◌, length, Option, Some, None, refl}
+use Rattle.std.proofs.Common.{ℕ, ◌-◌, Bool, true, false, ◌||◌, List, [], ◌∷◌, length, Option, Some, None}
 use Rattle.std.specs.Prelude.{◌==◌, nat_lt, nat_le, not, max, count_ones, if◌then◌else◌}
 use Rattle.std.specs.List.{AllByRecursion, flat_map}
 use Rattle.mrp_types.specs.declared.id.NodeId.{NodeId}
-use Rattle.mrp_types.specs.declared.id.Party.TheVariants.{Node}
 use Rattle.mrp_types.specs.declared.value.Entry.{Entry}
 use Rattle.mrp_types.specs.declared.value.Value.{Value}
 use Rattle.mrp_types.specs.declared.voted.Voted.{Voted}
@@ -21,12 +20,12 @@ use Rattle.frames.specs.declared.body.Body.{Body}
 use Rattle.frames.specs.declared.body.Body.TheVariants.{Refuse, Accept, Decide, Chosen, Trimmed}
 use Rattle.frames.specs.declared.sent.Sent.{Sent}
 use Rattle.protocol.specs.Lines.{Line}
-use Rattle.protocol.specs.Parts.{Ring, Campaign, Role, Idle, Active, Part, Did}
+use Rattle.protocol.specs.Parts.{Ring, Role, Idle, Active, Part, Did}
 use Rattle.protocol.specs.Rings.{is_node, is_beyond, owner_of, position_of, majority_of, has_bit, with_bit, next_acceptor, next_member, sent_by, sends, sends_each}
 use Rattle.protocol.specs.Doing.{nothing_done, with_part, with_change, with_frames, with_kept, with_learned, with_line}
-use Rattle.protocol.specs.Learner.{decided_of, learned_ranges, unfinished, is_finished, role_unfinished, without_finished}
-use Rattle.protocol.specs.Acceptor.{idle_below, promised_part, promises, votes_for, trims_to, page_room, votes_page, ranges_page, promise_of, tells_promise, refuses, tells_trim, prepares, first_decide, decides, goes_on, accepts_at, accepts, tells_ranges, fetches}
-use Rattle.ask_laws.specs.Carried.{ValueCarries, VotesCarry, VotedCarry, RangesCarry, CampaignCarries, RoleCarries, PartCarries, ChangeCarries, LineCarries, BodyCarries, SentCarries, DidCarries}
+use Rattle.protocol.specs.Learner.{decided_of, learned_ranges, is_finished, role_unfinished, without_finished}
+use Rattle.protocol.specs.Acceptor.{idle_below, promised_part, promises, votes_for, trims_to, page_room, ranges_page, promise_of, tells_promise, refuses, tells_trim, prepares, first_decide, decides, goes_on, accepts_at, accepts, tells_ranges, fetches}
+use Rattle.ask_laws.specs.Carried.{ValueCarries, VotesCarry, RangesCarry, RoleCarries, PartCarries, ChangeCarries, LineCarries, BodyCarries, SentCarries, DidCarries}
 use Rattle.ask_laws.proofs.Lists.{appended, filtered, fronted, range_all, ranges_all, learned_all}
 
 module _ (Is : ℕ → Entry → Type 0) where

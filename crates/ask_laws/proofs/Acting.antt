@@ -1,5 +1,5 @@
 -- A rule of a ring was made, and what it decides is learned: a step on its way carries what was there and what came.
-use Rattle.std.proofs.Common.{◌≡◌, ℕ, zero, suc, ◌+◌, ◌^◌, Bool, true, false, List, [], ◌∷◌, ◌++◌, map, Option, Some, None, refl, sym, subst, arith}
+use Rattle.std.proofs.Common.{◌≡◌, ℕ, zero, suc, ◌+◌, ◌^◌, Bool, true, false, List, [], ◌∷◌, ◌++◌, map, Option, Some, None, refl, subst, arith}
 use Rattle.std.specs.Prelude.{◌==◌, if◌then◌else◌}
 use Rattle.std.specs.List.{AllByRecursion}
 use Rattle.std.proofs.lemmas.Bool.Decides.{nat_tests}
@@ -11,18 +11,17 @@ use Rattle.mrp_types.specs.declared.value.Value.TheVariants.{Skip, Batch}
 use Rattle.mrp_types.specs.declared.voted.Decided.{Decided}
 use Rattle.mrp_types.specs.Entries.{IsEntry}
 use Rattle.mrp_config.specs.Config.{Config}
-use Rattle.vote_state.specs.declared.change.Change.{Change}
 use Rattle.frames.specs.declared.sent.Sent.{Sent}
-use Rattle.plain_model.specs.Replicas.{AppliedAll, applies, entries_of_batch}
+use Rattle.plain_model.specs.Replicas.{applies, entries_of_batch}
 use Rattle.protocol.specs.Lines.{Line, Deliver, Learn}
 use Rattle.protocol.specs.Parts.{Ring, Part, Did}
 use Rattle.protocol.specs.Doing.{nothing_done}
-use Rattle.protocol.specs.Learner.{is_news, learns_news, learns}
+use Rattle.protocol.specs.Learner.{learns}
 use Rattle.protocol.specs.Proposing.{proposes}
-use Rattle.protocol.specs.Node.{Acting, View, RingPart, Service, Stage, Recovering, Ready, Standing, part_in, part_at, with_part_in, with_part, with_stage, prints, sends_all}
+use Rattle.protocol.specs.Node.{Acting, RingPart, Service, Stage, Recovering, Ready, Standing, part_in, part_at, with_part_in, with_part, with_stage, prints, sends_all}
 use Rattle.protocol.specs.Merging.{reply_line, reply_frame, value_at_place, place_of, takes_place, goes_on, merges_stage, merges_service, merges_up_to, merges}
 use Rattle.protocol.specs.Learning.{with_did, Queued, queued, proposes_then, by_news, learns_one, then_learns, learns_up_to, does}
-use Rattle.ask_laws.specs.Carried.{ValueCarries, RangesCarry, PartCarries, RingPartCarries, ViewCarries, ChangeCarries, LineCarries, SentCarries, DidCarries, ActCarries}
+use Rattle.ask_laws.specs.Carried.{ValueCarries, RangesCarry, PartCarries, RingPartCarries, ChangeCarries, LineCarries, SentCarries, DidCarries, ActCarries}
 use Rattle.ask_laws.proofs.Lists.{appended}
 use Rattle.ask_laws.proofs.Acceptor.{none_made}
 use Rattle.ask_laws.proofs.Proposing.{proposes_made}

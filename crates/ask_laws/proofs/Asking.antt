@@ -1,7 +1,6 @@
 -- A client that is told to ask takes the command under its next number, or nothing.
-use Rattle.std.proofs.Common.{◌≡◌, ◌<◌, ◌≤◌, ◌⊎◌, inl, inr, ℕ, ◌+◌, ◌^◌, Bool, true, false, ◌&&◌, List, [], ◌∷◌, Option, Some, None, Result, Ok, Err, refl, sym, ap, subst, ◌∙◌, arith, true≢false}
+use Rattle.std.proofs.Common.{◌≡◌, ◌<◌, ◌≤◌, ◌⊎◌, inl, inr, ℕ, ◌+◌, ◌^◌, Bool, true, false, ◌&&◌, Option, Some, None, Result, Ok, Err, refl, sym, ap, subst, ◌∙◌, arith, true≢false}
 use Rattle.std.specs.Prelude.{◌==◌, nat_lt, if◌then◌else◌}
-use Rattle.std.specs.List.{AllByRecursion}
 use Rattle.std.proofs.lemmas.Bool.Decides.{nat_tests}
 use Rattle.mrp_types.specs.declared.id.ClientId.{ClientId}
 use Rattle.mrp_types.specs.declared.id.RingId.{RingId}
@@ -13,7 +12,7 @@ use Rattle.mrp_config.specs.Routing.{concerned_of, route_of}
 use Rattle.plain_model.proofs.TupleOrder.{split_and}
 use Rattle.protocol.specs.Client.{Asked, ClientView, ClientDid, idles, sends_it, asked_first, asks_on, asks_beside, asks}
 use Rattle.bare_world.specs.Runs.{IsClient}
-use Rattle.ask_laws.specs.Asks.{is_free, is_ordered, takes, or_else, IsTaken, IsAwaitedOrNone, ClientKeeps, ClientsKeep}
+use Rattle.ask_laws.specs.Asks.{is_free, takes, or_else, IsTaken, ClientKeeps, ClientsKeep}
 use Rattle.ask_laws.proofs.Clients.{or_more, keeps_more, DidKeeps, Sends, submits_carry}
 
 pub taken_later : (config : Config) (c s n m : ℕ) (command : Command) → n ≤ m → IsTaken config c s n command → IsTaken config c s m command

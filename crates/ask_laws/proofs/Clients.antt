@@ -1,32 +1,25 @@
 -- Clients take commands under numbers that rise, and send them alone.
-use Rattle.std.proofs.Common.{◌≡◌, ◌<◌, ◌≤◌, ℕ, ◌+◌, ◌%◌, ◌^◌, Bool, true, false, ◌&&◌, List, [], ◌∷◌, Option, Some, None, Result, Ok, Err, refl, sym, ap, subst, ◌∙◌, arith, true≢false}
-use Rattle.std.specs.Prelude.{◌==◌, nat_lt, not, if◌then◌else◌}
+use Rattle.std.proofs.Common.{◌≡◌, ◌<◌, ◌≤◌, ℕ, ◌+◌, ◌%◌, ◌^◌, Bool, true, false, ◌&&◌, Option, Some, None, Result, Ok, Err, refl, sym, subst}
+use Rattle.std.specs.Prelude.{◌==◌, not, if◌then◌else◌}
 use Rattle.std.specs.List.{AllByRecursion}
-use Rattle.std.proofs.lemmas.Bool.Decides.{nat_tests}
 use Rattle.mrp_types.specs.declared.id.ClientId.{ClientId}
 use Rattle.mrp_types.specs.declared.id.NodeId.{NodeId}
-use Rattle.mrp_types.specs.declared.id.RingId.{RingId}
-use Rattle.mrp_types.specs.declared.id.PartitionId.{PartitionId}
 use Rattle.mrp_types.specs.declared.value.Entry.{Entry}
-use Rattle.mrp_types.specs.Entries.{IsEntry}
 use Rattle.command_codec.specs.declared.command.Command.{Command}
 use Rattle.command_codec.specs.declared.fault.CodecFault.{CodecFault}
 use Rattle.command_codec.specs.declared.reply.Reply.{Reply}
 use Rattle.command_codec.specs.Grammar.{reply_of}
 use Rattle.command_codec.specs.Spelling.{command_bytes}
 use Rattle.command_codec.specs.Valid.{IsCommand}
-use Rattle.mrp_config.specs.declared.routing.NoGroup.{NoGroup}
 use Rattle.mrp_config.specs.declared.tables.PartitionTable.{PartitionTable}
 use Rattle.mrp_config.specs.Config.{Config, ring_at, partition_at}
 use Rattle.mrp_config.specs.Routing.{concerned_of, route_of, is_concerned}
 use Rattle.frames.specs.declared.body.Body.{Body}
 use Rattle.frames.specs.declared.body.Body.TheVariants as bodies
-use Rattle.frames.specs.declared.sent.Sent.{Sent}
-use Rattle.protocol.specs.Lines.{Line}
-use Rattle.protocol.specs.Client.{Asked, ClientView, ClientDid, idles, acceptor_at, acceptors_of, submit_to, submits, sends_it, asked_first, asks_on, asks_beside, asks, ticked, ticks_for, client_ticks, fits, has_part, with_part, have_all, answers, gathered, replied_with, replied_by, replied_for, replied, client_takes}
+use Rattle.protocol.specs.Client.{Asked, ClientView, ClientDid, idles, acceptor_at, acceptors_of, submit_to, submits, sends_it, ticks_for, client_ticks, fits, has_part, with_part, have_all, answers, gathered, replied_with, replied_by, replied_for, replied, client_takes}
 use Rattle.bare_world.specs.Runs.{IsClient}
 use Rattle.ask_laws.specs.Carried.{LineCarries, SentCarries}
-use Rattle.ask_laws.specs.Asks.{is_free, is_ordered, takes, or_else, IsAsked, IsTaken, IsAwaited, IsAwaitedOrNone, ClientKeeps, ClientsKeep}
+use Rattle.ask_laws.specs.Asks.{or_else, IsAsked, IsTaken, IsAwaited, IsAwaitedOrNone, ClientKeeps}
 use Rattle.ask_laws.proofs.Commands.{short_command}
 
 -- ---- what is taken stays taken

@@ -1,6 +1,6 @@
 -- The other words of a ring's tables carry what was there and what came.
-use Rattle.std.proofs.Common.{◌≡◌, ℕ, zero, suc, ◌+◌, ◌-◌, ◌^◌, Bool, true, false, ◌&&◌, ◌||◌, List, [], ◌∷◌, ◌++◌, length, Option, Some, None, refl}
-use Rattle.std.specs.Prelude.{◌==◌, nat_lt, nat_le, not, min, max, if◌then◌else◌, slice_index}
+use Rattle.std.proofs.Common.{ℕ, zero, suc, ◌^◌, Bool, true, false, ◌&&◌, List, [], ◌∷◌, length, Option, Some, None}
+use Rattle.std.specs.Prelude.{◌==◌, nat_lt, nat_le, not, max, if◌then◌else◌, slice_index}
 use Rattle.std.specs.List.{AllByRecursion}
 use Rattle.mrp_types.specs.declared.id.NodeId.{NodeId}
 use Rattle.mrp_types.specs.declared.id.ClientId.{ClientId}
@@ -15,20 +15,19 @@ use Rattle.vote_state.specs.Ranges.{cast_of}
 use Rattle.ring_link.specs.Silence.{Link}
 use Rattle.skip_leveller.specs.Levelling.{answer_of}
 use Rattle.frames.specs.declared.body.Body.TheVariants.{Submit, Prepare, Accept, Decide, AskSafe, TrimTo}
-use Rattle.frames.specs.declared.sent.Sent.{Sent}
 use Rattle.plain_model.specs.Fold.{entries_of_value}
 use Rattle.protocol.specs.Lines.{Trim, BallotLimit, InstanceLimit}
 use Rattle.protocol.specs.Parts.{Ring, Pending, Campaign, Role, Idle, Active, Round, Part, Did}
 use Rattle.protocol.specs.Rings.{position_of, owner_of, other_acceptors, replicas_of, by_id, next_acceptor, next_member, sends, sends_each}
-use Rattle.protocol.specs.Doing.{nothing_done, with_part, with_frames, with_line, with_campaign, with_coordinator, with_learned, with_learner}
-use Rattle.protocol.specs.Learner.{is_among, still_pending, role_without, without_commands, without_finished, is_news, with_range_learned, first_of, learns_news, learns, passed_on, decided, chosen}
+use Rattle.protocol.specs.Doing.{nothing_done, with_part, with_frames, with_line, with_campaign, with_coordinator, with_learner}
+use Rattle.protocol.specs.Learner.{is_among, role_without, without_commands, is_news, with_range_learned, first_of, learns_news, learns, passed_on, decided, chosen}
 use Rattle.protocol.specs.Acceptor.{promises, trims_to}
 use Rattle.protocol.specs.Ballots.{higher, with_reports, Page, with_page, asks_more, counts, reported_past, reported_at, reported, new_campaign, campaigns, leads_now, role_leads, greatest_seen, own_ballot}
 use Rattle.protocol.specs.Proposing.{has_room, own_mask, offers, proposes_after, proposes}
 use Rattle.protocol.specs.Coordinator.{starts_with, starts_at, leads, promised, role_refused, refused, most_pending, is_pending, with_pending, passes_on, waits, submits_leading, submits_in, submits}
 use Rattle.protocol.specs.Leading.{is_to_start, starts_idle, starts_on_tick, prepares_again, accepts_again, resends_in, resends, with_tick_taken, shortfall_from, levels_by, levels_in, levels}
 use Rattle.protocol.specs.Trimming.{trimmed, least, with_answer, in_round, trims_all, trims_above, ends_by, goes_on_round, with_own_answer, next_round, with_asked, asks, asks_round, answers_in, answers}
-use Rattle.ask_laws.specs.Carried.{ValueCarries, VotesCarry, VotedCarry, HeldCarry, RangesCarry, CampaignCarries, RoleCarries, PartCarries, SentCarries, DidCarries}
+use Rattle.ask_laws.specs.Carried.{ValueCarries, VotesCarry, VotedCarry, RangesCarry, CampaignCarries, RoleCarries, PartCarries, SentCarries, DidCarries}
 use Rattle.ask_laws.proofs.Lists.{appended, filtered, OrNone, met_all}
 use Rattle.ask_laws.proofs.Acceptor.{sends_carry, sends_each_carry, none_made, part_made, frames_made, line_made, learned_made, promises_made, without_finished_carries, trims_made}
 use Rattle.ask_laws.proofs.Proposing.{offers_made, proposes_made}

@@ -1,9 +1,8 @@
 -- What happens at a node leaves a world that carries what it carried.
-use Rattle.std.proofs.Common.{◌≡◌, ℕ, Bool, true, false, List, [], ◌∷◌, ◌++◌, Option, Some, None, refl, sym, subst, ap}
+use Rattle.std.proofs.Common.{◌≡◌, ℕ, Bool, true, false, List, [], ◌∷◌, ◌++◌, sym, subst}
 use Rattle.std.specs.Prelude.{◌==◌, if◌then◌else◌, slice_index_or}
 use Rattle.std.specs.List.{AllByRecursion}
 use Rattle.mrp_types.specs.declared.id.NodeId.{NodeId}
-use Rattle.mrp_types.specs.declared.id.Party.TheVariants.{Node}
 use Rattle.mrp_types.specs.declared.value.Entry.{Entry}
 use Rattle.mrp_types.specs.Entries.{IsEntry}
 use Rattle.mrp_config.specs.Config.{Config}
@@ -13,15 +12,14 @@ use Rattle.vote_state.specs.declared.ring.RingState.{RingState}
 use Rattle.vote_state.specs.State.{State, no_votes}
 use Rattle.vote_journal.specs.Journal.{Journal}
 use Rattle.checkpoint.specs.Checks.{Checks}
-use Rattle.transcript.specs.declared.line.ShownFrame.{ShownFrame}
 use Rattle.protocol.specs.Lines.{Line, Cause}
 use Rattle.protocol.specs.Lines as line
-use Rattle.protocol.specs.Node.{View, Event, Ticks, Takes, Leads, Stepped, Work}
+use Rattle.protocol.specs.Node.{Event, Ticks, Takes, Leads, Stepped, Work}
 use Rattle.protocol.specs.Opening.{opened}
 use Rattle.protocol.specs.Step.{step}
-use Rattle.bare_world.specs.Worlds.{Possible, Host, Up, Down, World, nothing, with_host, possible_of, chosen, goes_on, goes_down, stepped, steps_as, breaks_as, crashes_as, opens_as, fails_as, state_of_host}
-use Rattle.bare_world.specs.Runs.{WasSent, MayCome, MayOpenAt, MayLeaveAt}
-use Rattle.ask_laws.specs.Carried.{VotesCarry, StateCarries, ViewCarries, WorkCarries, LineCarries, SentCarries, PartyCarries, EventCarries, StepCarries, HostCarries, WorldCarries}
+use Rattle.bare_world.specs.Worlds.{Possible, Host, Up, Down, World, nothing, with_host, possible_of, chosen, goes_on, goes_down, steps_as, breaks_as, crashes_as, opens_as, fails_as}
+use Rattle.bare_world.specs.Runs.{MayCome, MayOpenAt, MayLeaveAt}
+use Rattle.ask_laws.specs.Carried.{VotesCarry, StateCarries, WorkCarries, LineCarries, SentCarries, PartyCarries, EventCarries, StepCarries, HostCarries, WorldCarries}
 use Rattle.ask_laws.proofs.Lists.{appended, one_of}
 use Rattle.ask_laws.proofs.Stepping.{nothing_carries, opened_carries, step_carries}
 

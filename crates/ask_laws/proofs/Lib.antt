@@ -13,3 +13,4 @@ pub mod Asking
 pub mod Worlds
 pub mod Told
 pub mod Reading
+pub mod Example

@@ -1,6 +1,6 @@
 -- What holds of each element of a list holds of each of a part of it, and of both of two lists.
-use Rattle.std.proofs.Common.{◌≡◌, ℕ, zero, suc, ◌-◌, Bool, true, false, List, [], ◌∷◌, ◌++◌, Option, Some, None, inl, inr, refl, sym, subst}
-use Rattle.std.specs.Prelude.{if◌then◌else◌, filter, nat_lt, nat_le, nat_eq, ◌==◌, ◌&&◌, max, map}
+use Rattle.std.proofs.Common.{ℕ, zero, suc, ◌-◌, Bool, true, false, List, [], ◌∷◌, ◌++◌, Option, Some, None, inl, inr, sym, subst}
+use Rattle.std.specs.Prelude.{if◌then◌else◌, filter, nat_lt, nat_le, nat_eq, ◌==◌, max, map}
 use Rattle.std.specs.List.{AllByRecursion}
 use Rattle.quorums.specs.Groups.{Has}
 use Rattle.mrp_types.specs.declared.value.Value.{Value}

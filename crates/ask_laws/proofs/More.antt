@@ -1,5 +1,5 @@
 -- What carries these entries carries those, where each of these is one of those.
-use Rattle.std.proofs.Common.{◌≡◌, ℕ, List, []}
+use Rattle.std.proofs.Common.{ℕ, List}
 use Rattle.std.specs.Prelude.{slice_index_or}
 use Rattle.std.specs.List.{AllByRecursion}
 use Rattle.mrp_types.specs.declared.id.NodeId.{NodeId}
@@ -20,9 +20,9 @@ use Rattle.vote_state.specs.declared.change.Change.TheVariants.{Vote}
 use Rattle.vote_state.specs.State.{State, no_votes}
 use Rattle.protocol.specs.Lines.{Line, Learn}
 use Rattle.protocol.specs.Parts.{Pending, Role, Idle, Active}
-use Rattle.protocol.specs.Node.{RingPart, View, Work, Records}
+use Rattle.protocol.specs.Node.{RingPart, Work, Records}
 use Rattle.bare_world.specs.Worlds.{Host, Up, Down, World}
-use Rattle.ask_laws.specs.Carried.{BatchCarries, ValueCarries, VotesCarry, RoleCarries, RingPartCarries, StateCarries, ViewCarries, ChangeCarries, WorkCarries, LineCarries, BodyCarries, ClientSends, PartyCarries, SentCarries, HostCarries, WorldCarries}
+use Rattle.ask_laws.specs.Carried.{ValueCarries, VotesCarry, RoleCarries, RingPartCarries, StateCarries, ChangeCarries, WorkCarries, LineCarries, BodyCarries, ClientSends, PartyCarries, SentCarries, HostCarries, WorldCarries}
 use Rattle.ask_laws.proofs.Lists.{mapped}
 
 module _ (Is Js : ℕ → Entry → Type 0) (more : (r : ℕ) (e : Entry) → Is r e → Js r e) where

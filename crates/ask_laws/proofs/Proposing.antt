@@ -1,33 +1,30 @@
 -- A coordinator proposes what was reported, Skip, or a batch of commands that wait.
-use Rattle.std.proofs.Common.{◌≡◌, ◌≤◌, ℕ, zero, suc, ◌+◌, ◌-◌, ◌*◌, Bool, true, false, ◌&&◌, ◌||◌, List, [], ◌∷◌, ◌++◌, length, Option, Some, None, refl, sym, subst, arith, length-append}
-use Rattle.std.specs.Prelude.{nat_lt, nat_le, nat_eq, not, max, if◌then◌else◌}
+use Rattle.std.proofs.Common.{◌≤◌, ℕ, zero, suc, ◌-◌, ◌*◌, Bool, true, false, ◌&&◌, ◌||◌, List, [], ◌∷◌, ◌++◌, length, Option, Some, None, refl, arith, length-append}
+use Rattle.std.specs.Prelude.{nat_lt, nat_le, not, if◌then◌else◌}
 use Rattle.std.specs.List.{AllByRecursion, flat_map, sum_by}
 use Rattle.std.proofs.lemmas.List.Concat.{length-flat_map}
 use Rattle.std.proofs.lemmas.List.Sums.{sum_by-cons}
-use Rattle.mrp_types.specs.declared.id.NodeId.{NodeId}
 use Rattle.mrp_types.specs.declared.id.TheConstants.{END}
 use Rattle.mrp_types.specs.declared.value.Entry.{Entry}
 use Rattle.mrp_types.specs.declared.value.Value.{Value}
 use Rattle.mrp_types.specs.declared.value.Value.TheVariants.{Skip, Batch}
-use Rattle.mrp_types.specs.declared.voted.Voted.{Voted}
 use Rattle.mrp_types.specs.declared.voted.Decided.{Decided}
 use Rattle.mrp_types.specs.Entries.{IsEntry}
 use Rattle.command_codec.specs.Fields.{u16_bytes}
-use Rattle.command_codec.specs.Spelling.{entry_bytes, batch_bytes, IsBatch}
+use Rattle.command_codec.specs.Spelling.{entry_bytes, batch_bytes}
 use Rattle.command_codec.proofs.Sizes.{length-u16_bytes, length-entry_bytes}
 use Rattle.range_map.specs.Entries.{value_at}
 use Rattle.vote_state.specs.declared.cast.Cast.{Cast}
 use Rattle.ring_link.specs.Silence.{Link}
-use Rattle.plain_model.specs.Pages.{front_within}
 use Rattle.plain_model.proofs.Pages.{front-longest}
-use Rattle.protocol.specs.Parts.{Ring, Pending, Campaign, Role, Idle, Active, Part, Did}
-use Rattle.protocol.specs.Doing.{nothing_done, with_part, with_campaign}
-use Rattle.protocol.specs.Acceptor.{votes_for, goes_on}
+use Rattle.protocol.specs.Parts.{Ring, Pending, Campaign, Role, Idle, Active, Did}
+use Rattle.protocol.specs.Doing.{with_part, with_campaign}
+use Rattle.protocol.specs.Acceptor.{votes_for}
 use Rattle.protocol.specs.Ballots.{covered_to, leads_now}
-use Rattle.protocol.specs.Proposing.{reported_to, due_by, due_at, run_end, unproposed, entry_size, fresh_entries, as_proposed, with_proposed, Choice, Rests, Offers, single, fresh_choice, choice_of, has_room, choice, advanced, own_mask, with_outstanding, after_offer, vote_of, offers, Turn, Stops, Proposes, turn_by, turn_with, turn_in, turn_of, proposing, proposes_after, proposes}
-use Rattle.ask_laws.specs.Carried.{BatchCarries, ValueCarries, RangesCarry, CampaignCarries, RoleCarries, PartCarries, DidCarries}
+use Rattle.protocol.specs.Proposing.{reported_to, due_by, due_at, unproposed, entry_size, fresh_entries, as_proposed, with_proposed, Choice, Rests, Offers, fresh_choice, choice_of, has_room, choice, advanced, own_mask, with_outstanding, after_offer, vote_of, offers, Turn, Stops, Proposes, turn_by, turn_in, turn_of, proposing, proposes_after}
+use Rattle.ask_laws.specs.Carried.{BatchCarries, ValueCarries, RangesCarry, CampaignCarries, RoleCarries, DidCarries}
 use Rattle.ask_laws.proofs.Lists.{mapped, appended, fronted, OrNone, found_at}
-use Rattle.ask_laws.proofs.Acceptor.{none_made, part_made, votes_made, goes_on_made}
+use Rattle.ask_laws.proofs.Acceptor.{part_made, votes_made, goes_on_made}
 
 many_entries : (es : List Entry) → length es * 11 ≤ sum_by entry_size es
 many_entries [] = omega arith

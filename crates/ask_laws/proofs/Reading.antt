@@ -1,10 +1,9 @@
 -- The entries of a value are read back, and values are bytes where the commands that were asked are.
-use Rattle.std.proofs.Common.{◌≡◌, ◌<◌, ◌≤◌, ℕ, ◌+◌, Bool, true, false, List, [], ◌∷◌, ◌++◌, Option, Some, None, Result, Ok, Err, refl, sym, ap, subst, arith}
+use Rattle.std.proofs.Common.{◌≡◌, ◌≤◌, ℕ, Bool, true, false, List, [], ◌∷◌, ◌++◌, Option, Some, Result, Ok, refl, sym, subst, arith}
 use Rattle.std.specs.Prelude.{◌==◌, if◌then◌else◌}
 use Rattle.std.specs.List.{AllByRecursion}
 use Rattle.std.proofs.lemmas.Bool.Decides.{nat_tests}
 use Rattle.hex.specs.Hex.{IsBytes}
-use Rattle.mrp_types.specs.declared.id.ClientId.{ClientId}
 use Rattle.mrp_types.specs.declared.value.Entry.{Entry}
 use Rattle.mrp_types.specs.declared.value.Value.{Value}
 use Rattle.mrp_types.specs.declared.value.Value.TheVariants.{Skip, Batch}
@@ -22,8 +21,8 @@ use Rattle.plain_model.specs.Fold.{entries_of_value}
 use Rattle.state_laws.specs.Books.{IsOfBytes, AreOfBytes}
 use Rattle.protocol.specs.Lines.{Line, Learn}
 use Rattle.bare_world.specs.Worlds.{Happening, Asks, nothing}
-use Rattle.bare_world.specs.Runs.{IsClient, run, MayRun}
-use Rattle.ask_laws.specs.Carried.{BatchCarries, ValueCarries, LineCarries}
+use Rattle.bare_world.specs.Runs.{run, MayRun}
+use Rattle.ask_laws.specs.Carried.{ValueCarries, LineCarries}
 use Rattle.ask_laws.specs.Asks.{asked_in, IsAsked, AsksBytes, learned_in}
 use Rattle.ask_laws.proofs.Commands.{IsOfBytes as EntryOfBytes, batch_are}
 use Rattle.ask_laws.proofs.Lists.{mapped}

@@ -1,5 +1,5 @@
 -- Recovery, asking for what is missing, and greeting carry no value.
-use Rattle.std.proofs.Common.{◌≡◌, ℕ, ◌+◌, ◌-◌, ◌^◌, Bool, true, false, ◌&&◌, ◌||◌, List, [], ◌∷◌, ◌++◌, length, map, Option, Some, None}
+use Rattle.std.proofs.Common.{ℕ, ◌+◌, ◌-◌, ◌^◌, Bool, true, false, ◌&&◌, ◌||◌, List, [], ◌∷◌, ◌++◌, length, map, Option, Some, None}
 use Rattle.std.specs.Prelude.{◌==◌, nat_lt, nat_le, not, if◌then◌else◌, filter}
 use Rattle.std.specs.List.{AllByRecursion, flat_map}
 use Rattle.mrp_types.specs.declared.id.NodeId.{NodeId}
@@ -18,7 +18,7 @@ use Rattle.protocol.specs.Lines.{Line, Begin, Chose, Restore, Refuse, AttemptLim
 use Rattle.protocol.specs.Rings.{is_beyond, sends, sends_to}
 use Rattle.protocol.specs.Trimming.{has_answered}
 use Rattle.protocol.specs.Node.{Acting, View, RingPart, Service, Stage, Recovering, Ready, Attempt, Choice, part_at, with_stage, prints, sends_all}
-use Rattle.protocol.specs.Merging.{merges, place_of}
+use Rattle.protocol.specs.Merging.{place_of}
 use Rattle.protocol.specs.Recovery.{epoch_of, own_tuple, others_of, with_lowered, lowers, restores, restores_read, installs_own, best_of, asks_part, gathers, chooses, chooses_best, chooses_if_quorum, asks_checkpoint, begins_next, begins, is_of, takes_answer, answered_by, is_of_choice, restores_or_begins, with_more, part_for, takes_part, gone_for, takes_gone, tells_checkpoint, answer_part, tells_part, asks_missing, ends_attempt, ticks_attempt, recovery_ticks}
 use Rattle.protocol.specs.Step.{waits_below, begins_if_behind, after_trim, behind, tells_safe, at_service, at_attempt, recovering}
 use Rattle.protocol.specs.Tick.{turn_of, fetches_at, fetches_stage, fetches_missing, shares_ring, greets, recovery_ticks_at, asks_on_beat}

@@ -1,6 +1,6 @@
 -- A whole step, and an opening, carry what was there and what came.
-use Rattle.std.proofs.Common.{◌≡◌, ℕ, zero, suc, ◌+◌, ◌-◌, ◌*◌, ◌/◌, ◌%◌, ◌^◌, Bool, true, false, ◌&&◌, List, [], ◌∷◌, ◌++◌, map, Option, Some, None, Result, refl, sym, ap, subst}
-use Rattle.std.specs.Prelude.{◌==◌, nat_lt, nat_le, if◌then◌else◌, slice_index_or, slice_set, replicate}
+use Rattle.std.proofs.Common.{◌≡◌, ℕ, zero, suc, ◌+◌, ◌/◌, ◌%◌, Bool, true, false, ◌&&◌, List, [], ◌∷◌, map, Option, Some, None, refl, sym, ap, subst}
+use Rattle.std.specs.Prelude.{◌==◌, nat_le, if◌then◌else◌, slice_index_or, slice_set, replicate}
 use Rattle.std.specs.List.{AllByRecursion}
 use Rattle.mrp_types.specs.declared.id.NodeId.{NodeId}
 use Rattle.mrp_types.specs.declared.id.RingId.{RingId}
@@ -10,13 +10,11 @@ use Rattle.mrp_types.specs.declared.id.Party.TheVariants.{Node, Client}
 use Rattle.mrp_types.specs.declared.value.Entry.{Entry}
 use Rattle.mrp_types.specs.declared.value.Value.{Value}
 use Rattle.mrp_types.specs.declared.voted.Voted.{Voted}
-use Rattle.mrp_types.specs.declared.voted.Decided.{Decided}
 use Rattle.mrp_types.specs.Entries.{IsEntry}
 use Rattle.mrp_config.specs.Config.{Config}
 use Rattle.mrp_config.specs.declared.tables.RingTable.{RingTable}
 use Rattle.mrp_config.specs.declared.tables.PartitionTable.{PartitionTable}
 use Rattle.command_codec.specs.Grammar.{command_of}
-use Rattle.range_map.specs.Entries.{entries_from}
 use Rattle.vote_state.specs.declared.cast.Cast.{Cast}
 use Rattle.vote_state.specs.declared.ring.RingState.{RingState}
 use Rattle.vote_state.specs.declared.change.Change.{Change}
@@ -27,18 +25,17 @@ use Rattle.vote_journal.specs.Journal.{Journal, recorded}
 use Rattle.checkpoint.specs.Checks.{Checks}
 use Rattle.frames.specs.declared.body.Body.{Body}
 use Rattle.frames.specs.declared.body.Body.TheVariants as body
-use Rattle.frames.specs.declared.sent.Sent.{Sent}
 use Rattle.ring_link.specs.Silence.{with_heard, with_tick}
 use Rattle.plain_model.specs.StateBytes.{state_bytes}
 use Rattle.protocol.specs.Parts.{Ring, Part, Did}
 use Rattle.protocol.specs.Rings.{is_acceptor, is_member, ring_of}
-use Rattle.protocol.specs.Learner.{new_part, decided, chosen}
+use Rattle.protocol.specs.Learner.{decided, chosen}
 use Rattle.protocol.specs.Acceptor.{prepares, accepts, fetches}
 use Rattle.protocol.specs.Ballots.{is_active}
 use Rattle.protocol.specs.Coordinator.{leads, promised, refused, submits}
 use Rattle.protocol.specs.Leading.{starts_on_tick, resends, levels}
 use Rattle.protocol.specs.Trimming.{trimmed, answers, asks_round}
-use Rattle.protocol.specs.Node.{Acting, View, RingPart, Service, Stage, Recovering, Ready, Standing, Attempt, Event, Ticks, Takes, Leads, Stepped, Work, work_of, begun_with, finished, part_in, part_at}
+use Rattle.protocol.specs.Node.{Acting, View, RingPart, Service, Stage, Recovering, Ready, Event, Ticks, Takes, Leads, work_of, begun_with, finished, part_at}
 use Rattle.protocol.specs.Recovery.{answered_by, takes_part, takes_gone, tells_checkpoint, tells_part, safe_of}
 use Rattle.protocol.specs.Bases.{base_by, rebased, rebases}
 use Rattle.protocol.specs.Learning.{does}

@@ -1,7 +1,6 @@
 -- What was asked was told to the client, and stays asked.
-use Rattle.std.proofs.Common.{◌≡◌, ◌<◌, ◌≤◌, ◌^◌, ◌⊎◌, inl, inr, ℕ, Bool, true, false, ◌&&◌, List, [], ◌∷◌, ◌++◌, Option, Some, None, Result, Ok, refl, sym, ap, subst, ◌∙◌, arith}
-use Rattle.std.specs.Prelude.{◌==◌, nat_lt}
-use Rattle.mrp_types.specs.declared.id.ClientId.{ClientId}
+use Rattle.std.proofs.Common.{◌≡◌, ◌<◌, ◌≤◌, ◌^◌, ◌⊎◌, inl, inr, ℕ, true, ◌&&◌, List, [], ◌∷◌, ◌++◌, Option, Some, None, Result, Ok, refl, sym, ap, subst, ◌∙◌}
+use Rattle.std.specs.Prelude.{nat_lt}
 use Rattle.mrp_types.specs.declared.id.RingId.{RingId}
 use Rattle.mrp_types.specs.declared.value.Entry.{Entry}
 use Rattle.command_codec.specs.declared.command.Command.{Command}
@@ -10,10 +9,10 @@ use Rattle.mrp_config.specs.declared.routing.NoGroup.{NoGroup}
 use Rattle.mrp_config.specs.Config.{Config}
 use Rattle.mrp_config.specs.Routing.{concerned_of, route_of}
 use Rattle.plain_model.proofs.TupleOrder.{split_and}
-use Rattle.protocol.specs.Client.{Asked, ClientView}
+use Rattle.protocol.specs.Client.{Asked}
 use Rattle.bare_world.specs.Worlds.{World, nothing, Happening, Asks, happens}
 use Rattle.bare_world.specs.Runs.{run, MayRun}
-use Rattle.ask_laws.specs.Asks.{is_free, is_ordered, takes, asked_with, asked_after, asked_in, WasTold, IsAsked, IsTaken}
+use Rattle.ask_laws.specs.Asks.{is_free, is_ordered, asked_with, asked_after, asked_in, WasTold, IsAsked}
 use Rattle.ask_laws.proofs.Clients.{asked_more}
 use Rattle.ask_laws.proofs.Asking.{IsNew, told_by, still_told}
 use Rattle.ask_laws.proofs.Worlds.{all_keep}
@@ -38,13 +37,13 @@ told_now config w asked (Asks id command) hs c s x e = elim (told_by config aske
     made new =
         let free = (split_and (is_free (w.clients id.0).asked) (is_ordered (route_of (concerned_of command config.partitions)) && nat_lt (w.clients id.0).next (2 ^ 63)) new.taken).0 in
         subst (λ (n : ℕ). WasTold config (Asks id command ∷ hs) w n s x) new.own (
-          record {
-            before = [];
-            after = hs;
-            parts = ap (λ (y : Command). Asks id y ∷ hs) new.same;
-            free = free_is (w.clients id.0).asked free;
-            number = new.number;
-          }
+        record {
+          before = [];
+          after = hs;
+          parts = ap (λ (y : Command). Asks id y ∷ hs) new.same;
+          free = free_is (w.clients id.0).asked free;
+          number = new.number;
+        }
         )
 told_now config w asked h hs c s x e = inl e
 

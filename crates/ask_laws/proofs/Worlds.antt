@@ -1,25 +1,23 @@
 -- Every run keeps that all its entries were asked.
-use Rattle.std.proofs.Common.{◌≡◌, ◌≤◌, ℕ, Bool, true, false, List, [], ◌∷◌, ◌++◌, Option, Some, None, refl, sym, subst, arith, inl, inr}
+use Rattle.std.proofs.Common.{◌≡◌, ℕ, Bool, true, false, List, [], ◌∷◌, ◌++◌, Option, Some, None, refl, sym, subst, arith, inl, inr}
 use Rattle.std.specs.Prelude.{◌==◌, if◌then◌else◌}
-use Rattle.std.specs.List.{AllByRecursion}
 use Rattle.std.proofs.lemmas.Bool.Decides.{nat_tests}
 use Rattle.mrp_types.specs.declared.id.ClientId.{ClientId}
 use Rattle.mrp_types.specs.declared.value.Entry.{Entry}
 use Rattle.mrp_types.specs.Entries.{IsEntry}
 use Rattle.command_codec.specs.declared.command.Command.{Command}
 use Rattle.mrp_config.specs.Config.{Config}
-use Rattle.frames.specs.declared.sent.Sent.{Sent}
 use Rattle.protocol.specs.Lines.{Line}
 use Rattle.protocol.specs.Lines as line
 use Rattle.protocol.specs.Client.{ClientView, ClientDid, asks, client_ticks, client_takes}
 use Rattle.bare_world.specs.Worlds.{Host, Up, Down, World, nothing, Happening, Steps, Breaks, Crashes, Opens, Fails, Asks, ClientTicks, ClientTakes, Shows, Lists, with_client, client_does, steps_as, breaks_as, crashes_as, opens_as, fails_as, state_of_host, happens}
 use Rattle.bare_world.specs.Runs.{MayHappen, run, MayRun}
-use Rattle.ask_laws.specs.Carried.{SentCarries, LineCarries, WorldCarries}
+use Rattle.ask_laws.specs.Carried.{WorldCarries}
 use Rattle.ask_laws.specs.Asks.{asked_with, asked_after, asked_in, IsAsked, IsTaken, ClientKeeps, ClientsKeep}
 use Rattle.ask_laws.proofs.More.{world_more}
 use Rattle.ask_laws.proofs.Hosts.{lines_put, frames_put, came_carries, crashes_carry, opens_carry, fails_carry, steps_carry, breaks_carry, none_carries}
 use Rattle.ask_laws.proofs.Clients.{asked_more, keeps_more, DidKeeps, Still, ticks_still, takes_still}
-use Rattle.ask_laws.proofs.Asking.{now_asked, IsNew, told_by, still_told, AskKeeps, asks_keep}
+use Rattle.ask_laws.proofs.Asking.{now_asked, told_by, still_told, AskKeeps, asks_keep}
 
 -- what a run keeps, with what was asked so far
 pub record RunKeeps (config : Config) (asked : ℕ → ℕ → Option Command) (w : World) : Type 0 where

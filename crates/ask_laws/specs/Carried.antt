@@ -1,5 +1,5 @@
 -- What carries values and waiting commands: each entry in it is one of those that are meant, by ring.
-use Rattle.std.specs.Prelude.{◌≡◌, ℕ, List, Option, Some, None, slice_index_or}
+use Rattle.std.specs.Prelude.{◌≡◌, ℕ, List, slice_index_or}
 use Rattle.std.specs.List.{AllByRecursion}
 use Rattle.mrp_types.specs.declared.id.NodeId.{NodeId}
 use Rattle.mrp_types.specs.declared.id.ClientId.{ClientId}
@@ -15,14 +15,13 @@ use Rattle.frames.specs.declared.body.Body.{Body}
 use Rattle.frames.specs.declared.body.Body.TheVariants.{Submit, Promise, Accept, Decide, Chosen}
 use Rattle.frames.specs.declared.sent.Sent.{Sent}
 use Rattle.vote_state.specs.declared.cast.Cast.{Cast}
-use Rattle.vote_state.specs.declared.ring.RingState.{RingState}
 use Rattle.vote_state.specs.declared.change.Change.{Change}
 use Rattle.vote_state.specs.declared.change.Change.TheVariants.{Vote}
 use Rattle.vote_state.specs.State.{State, no_votes}
 use Rattle.protocol.specs.Lines.{Line, Learn}
 use Rattle.protocol.specs.Parts.{Pending, Campaign, Role, Idle, Active, Part, Did}
 use Rattle.protocol.specs.Node.{RingPart, View, Event, Takes, Work, Records, Stepped, Acting}
-use Rattle.bare_world.specs.Worlds.{Possible, Host, Up, Down, World}
+use Rattle.bare_world.specs.Worlds.{Host, Up, Down, World}
 
 -- ---- values
 

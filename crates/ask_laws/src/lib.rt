@@ -10,7 +10,7 @@
 #![tactic(auto)]
 
 ghost use Rattle.std.specs.List.{AllByRecursion};
-ghost use Rattle.std.specs.Prelude.{◌≡◌, ◌<◌, ◌≤◌, ◌++◌, List, ℕ, Option, Some};
+ghost use Rattle.std.specs.Prelude.{◌≡◌, ◌<◌, ◌≤◌, ◌++◌, ◌∷◌, [], List, ℕ, Option, Some};
 ghost use Rattle.mrp_types.specs.declared.value.Entry.{Entry};
 ghost use Rattle.mrp_types.specs.declared.value.Value.{Value};
 ghost use Rattle.command_codec.specs.declared.command.Command.{Command};
@@ -22,6 +22,7 @@ ghost use Rattle.bare_world.specs.Worlds.{Happening, nothing};
 ghost use Rattle.bare_world.specs.Runs.{run, MayRun};
 ghost use Rattle.ask_laws.specs.Carried.{ValueCarries, WorldCarries};
 ghost use Rattle.ask_laws.specs.Asks.{asked_in, IsAsked, WasTold, ClientsKeep, AsksBytes, learned_in};
+ghost use Rattle.ask_laws.specs.Example.{config, a_run, learned, entry};
 
 /// In every run each value is Skip or the one spelling of a batch whose entries were asked on its ring: in a vote that is kept,
 /// on either state that the disk of a node that is down may stand for, in a report, in a proposal that is outstanding, in what was
@@ -74,4 +75,13 @@ pub fn values_are_of_bytes()
         ValueCarries (IsAsked config (asked_in config hs)) ring value → IsOfBytes value }
     ensures book { (config : Config) (hs : List Happening) → IsValid config → AllByRecursion AsksBytes hs → MayRun config nothing hs →
         AreOfBytes (learned_in (run config hs nothing).lines) }
+{}
+
+/// A run that meets these premises, on a valid deployment of one node and one client: the command that the client asks is learned.
+pub fn a_command_is_learned()
+    ensures valid { IsValid config }
+    ensures may { MayRun config nothing a_run }
+    ensures bytes { AllByRecursion AsksBytes a_run }
+    ensures learned { learned_in (run config a_run nothing).lines ≡ learned ∷ [] }
+    ensures asked { IsAsked config (asked_in config a_run) 0 entry }
 {}
