@@ -1,8 +1,7 @@
 -- A rule of a ring was made, and what it decides is learned: a step on its way carries what was there and what came.
-use Rattle.std.proofs.Common.{◌≡◌, ℕ, zero, suc, ◌+◌, ◌^◌, Bool, true, false, List, [], ◌∷◌, ◌++◌, map, Option, Some, None, refl, subst, arith}
+use Rattle.std.proofs.Common.{◌≡◌, ℕ, zero, suc, ◌+◌, ◌^◌, Bool, true, false, List, [], ◌∷◌, ◌++◌, map, Option, Some, None, refl, subst, sym}
 use Rattle.std.specs.Prelude.{◌==◌, if◌then◌else◌}
 use Rattle.std.specs.List.{AllByRecursion}
-use Rattle.std.proofs.lemmas.Bool.Decides.{nat_tests}
 use Rattle.mrp_types.specs.declared.id.NodeId.{NodeId}
 use Rattle.mrp_types.specs.declared.id.RingId.{RingId}
 use Rattle.mrp_types.specs.declared.value.Entry.{Entry}
@@ -13,6 +12,7 @@ use Rattle.mrp_types.specs.Entries.{IsEntry}
 use Rattle.mrp_config.specs.Config.{Config}
 use Rattle.frames.specs.declared.sent.Sent.{Sent}
 use Rattle.plain_model.specs.Replicas.{applies, entries_of_batch}
+use Rattle.plain_model.proofs.TupleOrder.{same_number}
 use Rattle.protocol.specs.Lines.{Line, Deliver, Learn}
 use Rattle.protocol.specs.Parts.{Ring, Part, Did}
 use Rattle.protocol.specs.Doing.{nothing_done}
@@ -39,23 +39,17 @@ module _ (Is : ℕ → Entry → Type 0) where
   part_found id [] all = tt
   part_found id (p ∷ parts) all = by (p.ring.id.0 == id.0) refl (part_found id parts all.1)
     where
-      same : (i j : ℕ) → (i == j) ≡ true → i ≡ j
-      same i j e = grind (arith, nat_tests)
-
       by : (t : Bool) → (p.ring.id.0 == id.0) ≡ t → FoundCarries id (part_in parts id) → FoundCarries id (if t then Some p else part_in parts id)
-      by true e later = (same p.ring.id.0 id.0 e, all.0)
+      by true e later = (same_number p.ring.id.0 id.0 e, all.0)
       by false e later = later
 
   part_put : (id : RingId) (part : Part) (parts : List RingPart) → PartCarries Is id.0 part → AllByRecursion (RingPartCarries Is) parts → AllByRecursion (RingPartCarries Is) (with_part_in id part parts)
   part_put id part [] is all = tt
   part_put id part (p ∷ parts) is all = by (p.ring.id.0 == id.0) refl (part_put id part parts is all.1)
     where
-      same : (i j : ℕ) → (i == j) ≡ true → j ≡ i
-      same i j e = grind (arith, nat_tests)
-
       by : (t : Bool) → (p.ring.id.0 == id.0) ≡ t → AllByRecursion (RingPartCarries Is) (with_part_in id part parts)
           → AllByRecursion (RingPartCarries Is) (if t then record p { part = part } ∷ parts else p ∷ with_part_in id part parts)
-      by true e later = (subst (λ (n : ℕ). PartCarries Is n part) (same p.ring.id.0 id.0 e) is, all.1)
+      by true e later = (subst (λ (n : ℕ). PartCarries Is n part) (sym (same_number p.ring.id.0 id.0 e)) is, all.1)
       by false e later = (all.0, later)
 
   -- ---- a step goes on
@@ -160,7 +154,8 @@ module _ (Is : ℕ → Entry → Type 0) (valid : (r : ℕ) (e : Entry) → Is r
       let carried = merges_act Is config (prints (Learn a.view.id ring.id range.lo range.hi range.value ∷ []) a) (prints_act Is (Learn a.view.id ring.id range.lo range.hi range.value ∷ []) a (is, tt) c) in
       proposes_carry later (part_at now.view ring.id) now (part_found Is ring.id now.view.parts carried.view.parts) ranges carried
 
-  one_carries : (range : Decided) (later : List Decided) (o : Option RingPart) (a : Acting) → FoundCarries Is ring.id o → ValueCarries Is ring.id.0 range.value → RangesCarry Is ring.id.0 later → ActCarries Is a
+  one_carries : (range : Decided) (later : List Decided) (o : Option RingPart) (a : Acting) → FoundCarries Is ring.id o → ValueCarries Is ring.id.0 range.value
+      → RangesCarry Is ring.id.0 later → ActCarries Is a
       → QueueCarries (learns_one config ring range later o a)
   one_carries range later None a found is ranges c = record { acting = c; ranges = ranges }
   one_carries range later (Some p) a found is ranges c =

@@ -9,7 +9,7 @@ use Rattle.command_codec.specs.Valid.{IsCommand}
 use Rattle.mrp_config.specs.declared.routing.NoGroup.{NoGroup}
 use Rattle.mrp_config.specs.Config.{Config}
 use Rattle.mrp_config.specs.Routing.{concerned_of, route_of}
-use Rattle.plain_model.proofs.TupleOrder.{split_and}
+use Rattle.plain_model.proofs.TupleOrder.{split_and, same_number}
 use Rattle.protocol.specs.Client.{Asked, ClientView, ClientDid, idles, sends_it, asked_first, asks_on, asks_beside, asks}
 use Rattle.bare_world.specs.Runs.{IsClient}
 use Rattle.ask_laws.specs.Asks.{is_free, takes, or_else, IsTaken, ClientKeeps, ClientsKeep}
@@ -45,9 +45,6 @@ module _ (config : Config) (asked : ℕ → ℕ → Option Command) (clients : �
     | inr new ↦ inr (made new)
   ]
     where
-      same_number : (i j : ℕ) → (i == j) ≡ true → i ≡ j
-      same_number i j h = grind (arith, nat_tests)
-
       made : (if (id.0 == c) && (((clients id.0).next == s) && takes config (clients id.0) command) then Some command else None) ≡ Some x → IsNew c s x
       made h =
           let t = if_told ((id.0 == c) && (((clients id.0).next == s) && takes config (clients id.0) command)) command x h in
@@ -79,12 +76,6 @@ module _ (config : Config) (asked : ℕ → ℕ → Option Command) (clients : �
     unfolding asks
     asks_keep = by_asked (clients id.0).asked refl
       where
-        view : ClientView
-        view = clients id.0
-
-        route : Result RingId NoGroup
-        route = route_of (concerned_of command config.partitions)
-
         idle : takes config (clients id.0) command ≡ false → AskKeeps (idles (clients id.0))
         idle none = record { next = omega arith; keeps = record { client = own_still; frames = tt; lines = tt }; taken = none_taken none }
 

@@ -134,9 +134,6 @@ module _ (Is : ℕ → Entry → Type 0) (valid : (r : ℕ) (e : Entry) → Is r
   unfolding submits
   submits_made link part hops client seq command asked is = by_role part.coordinator.role is.role
     where
-      entry : Entry
-      entry = record { client = client; seq = seq; command = command }
-
       passes : (n : ℕ) → DidCarries Is ring.id.0 (passes_on ring part n (record { client = client; seq = seq; command = command }))
       passes zero = frames_made Is ring (sends ring (owner_of ring (greatest_seen part)) (Submit ring.id 1 client seq command)) (nothing_done part)
           (sends_carry Is ring (owner_of ring (greatest_seen part)) (Submit ring.id 1 client seq command) asked) (none_made Is ring part is)
@@ -193,7 +190,8 @@ module _ (Is : ℕ → Entry → Type 0) (valid : (r : ℕ) (e : Entry) → Is r
   prepares_carry ballot [] covered = tt
   prepares_carry ballot (node ∷ nodes) [] = tt
   prepares_carry ballot (node ∷ nodes) (c ∷ covered) =
-      appended (SentCarries Is) (if nat_lt c END then sends ring (Some node) (Prepare ring.id ballot c) else []) (prepares_again ring ballot nodes covered) (by (nat_lt c END)) (prepares_carry ballot nodes covered)
+      appended (SentCarries Is) (if nat_lt c END then sends ring (Some node) (Prepare ring.id ballot c) else []) (prepares_again ring ballot nodes covered)
+      (by (nat_lt c END)) (prepares_carry ballot nodes covered)
     where
       by : (t : Bool) → AllByRecursion (SentCarries Is) (if t then sends ring (Some node) (Prepare ring.id ballot c) else [])
       by true = sends_carry Is ring (Some node) (Prepare ring.id ballot c) tt
@@ -271,9 +269,6 @@ module _ (Is : ℕ → Entry → Type 0) (valid : (r : ℕ) (e : Entry) → Is r
   unfolding asks_round
   asks_round_made link part own_safe is = by (role_leads ring part.coordinator.role)
     where
-      asked : Did
-      asked = with_frames (sends_each ring (by_id (replicas_of ring.subscribers)) (AskSafe ring.id (suc part.rounds.asked))) (nothing_done (with_asked part))
-
       by : (t : Bool) → DidCarries Is ring.id.0 (if t then asks ring link part own_safe else nothing_done part)
       by true = ends_made link (with_own_answer ring own_safe (next_round part))
           (with_frames (sends_each ring (by_id (replicas_of ring.subscribers)) (AskSafe ring.id (suc part.rounds.asked))) (nothing_done (with_asked part)))

@@ -41,7 +41,8 @@ module _ (Is : ℕ → Entry → Type 0) where
       by k true = is
       by k false = c.hosts k
 
-  goes_on_carries : (id : NodeId) (before : List Line) (did : Stepped) (w : World) → AllByRecursion (LineCarries Is) before → StepCarries Is did → WorldCarries Is w → WorldCarries Is (goes_on id before did w)
+  goes_on_carries : (id : NodeId) (before : List Line) (did : Stepped) (w : World) → AllByRecursion (LineCarries Is) before → StepCarries Is did → WorldCarries Is w
+      → WorldCarries Is (goes_on id before did w)
   goes_on_carries id before did w lines d c =
       let up : World = with_host id (Up did.view) w in
       let sent : World = record up { frames = up.frames ++ did.frames } in
@@ -67,12 +68,19 @@ module _ (Is : ℕ → Entry → Type 0) where
   crashes_carry id cause (Down durable pending) w h c = c
   crashes_carry id cause (Up view) w h c = goes_down_carries id cause (possible_of view) (possible_of view) w h.state h.state c
 
-  pub opens_carry : (config : Config) (id : NodeId) (after : Bool) (journal : Journal) (checks : Checks) (host : Host) (w : World) → MayOpenAt config id after journal checks host → HostCarries Is host → WorldCarries Is w
+  pub opens_carry : (config : Config) (id : NodeId) (after : Bool) (journal : Journal) (checks : Checks) (host : Host) (w : World) → MayOpenAt config id after journal checks host
+      → HostCarries Is host → WorldCarries Is w
       → WorldCarries Is (opens_as config id journal checks host w)
   opens_carry config id after journal checks (Up view) w may h c = c
   opens_carry config id after journal checks (Down durable pending) w may h c =
       let now : World = goes_on id (line.Up id journal.state.epoch ∷ []) (opened config id journal checks) w in
-      record { hosts = on.hosts; frames = on.frames; lines = on.lines; works = on.works; read = appended (λ (x : NodeId × State). StateCarries Is x.1) now.read ((id, journal.state) ∷ []) on.read (state, tt) }
+      record {
+        hosts = on.hosts;
+        frames = on.frames;
+        lines = on.lines;
+        works = on.works;
+        read = appended (λ (x : NodeId × State). StateCarries Is x.1) now.read ((id, journal.state) ∷ []) on.read (state, tt);
+      }
     where
       state : StateCarries Is journal.state
       state = same_rings (chosen after durable pending).state journal.state may.rings (chosen_carries after durable pending h.0 h.1)
@@ -92,7 +100,13 @@ module _ (Is : ℕ → Entry → Type 0) where
     steps_carry id event (Down durable pending) w came h c = c
     steps_carry id event (Up view) w came h c =
         let now : World = goes_on id [] (step config view event) w in
-        record { hosts = on.hosts; frames = on.frames; lines = on.lines; works = appended (λ (x : NodeId × Work). WorkCarries Is x.1) now.works ((id, (step config view event).work) ∷ []) on.works (made.work, tt); read = on.read }
+        record {
+          hosts = on.hosts;
+          frames = on.frames;
+          lines = on.lines;
+          works = appended (λ (x : NodeId × Work). WorkCarries Is x.1) now.works ((id, (step config view event).work) ∷ []) on.works (made.work, tt);
+          read = on.read;
+        }
       where
         made : StepCarries Is (step config view event)
         made = step_carries Is valid config view event h came

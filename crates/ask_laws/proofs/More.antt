@@ -1,4 +1,4 @@
--- What carries these entries carries those, where each of these is one of those.
+-- What carries entries of one property carries entries of a weaker one.
 use Rattle.std.proofs.Common.{ℕ, List}
 use Rattle.std.specs.Prelude.{slice_index_or}
 use Rattle.std.specs.List.{AllByRecursion}

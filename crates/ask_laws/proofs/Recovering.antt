@@ -119,7 +119,8 @@ module _ (Is : ℕ → Entry → Type 0) where
           quorum_keeps config (record service { attempts = number }) (record { number = number; ticks = 0; answers = (a.view.id, own_tuple a.view service) ∷ []; choice = None }) (sends_all asked (prints line a))
           (sends_act Is asked (prints line a) (asks_carry a.view number (others_of a.view.id service.partition)) (prints_act Is line a (tt, tt) c))
 
-  pub answered_keeps : (config : Config) (service : Service) (attempt : Attempt) (from : NodeId) (epoch number : ℕ) (tuple : List (RingId × ℕ)) → Keeps (answered_by config service attempt from epoch number tuple)
+  pub answered_keeps : (config : Config) (service : Service) (attempt : Attempt) (from : NodeId) (epoch number : ℕ) (tuple : List (RingId × ℕ))
+      → Keeps (answered_by config service attempt from epoch number tuple)
   unfolding answered_by
   answered_keeps config service attempt from epoch number tuple a c =
       by (is_of a.view attempt epoch number && (has_node service.partition.replicas from.0 && (not (has_answered from attempt.answers) && is_tuple_of (round_sizes config) service.partition.rings tuple)))
@@ -158,7 +159,8 @@ module _ (Is : ℕ → Entry → Type 0) where
           by true = more_keeps config service attempt (record choice { bytes = choice.bytes ++ bytes }) total a c
           by false = c
 
-  pub gone_keeps : (config : Config) (service : Service) (attempt : Attempt) (from : NodeId) (epoch number : ℕ) (asked newer : List (RingId × ℕ)) → Keeps (takes_gone config service attempt from epoch number asked newer)
+  pub gone_keeps : (config : Config) (service : Service) (attempt : Attempt) (from : NodeId) (epoch number : ℕ) (asked newer : List (RingId × ℕ))
+      → Keeps (takes_gone config service attempt from epoch number asked newer)
   unfolding takes_gone
   gone_keeps config service attempt from epoch number asked newer a c = at attempt.choice
     where

@@ -160,7 +160,8 @@ module _ (Is : ℕ → Entry → Type 0) (valid : (r : ℕ) (e : Entry) → Is r
   abbrev Rule : RingId → (Ring → Part → Acting → Did) → Type 0
   Rule id rule = (r : Ring) (part : Part) (a : Acting) → r.id.0 ≡ id.0 → PartCarries Is r.id.0 part → DidCarries Is r.id.0 (rule r part a)
 
-  does_at : (id : RingId) (rule : Ring → Part → Acting → Did) → Rule id rule → (p : RingPart) (a : Acting) → FoundCarries Is id (Some p) → ActCarries Is a → ActCarries Is (does config p.ring (rule p.ring p.part a) a)
+  does_at : (id : RingId) (rule : Ring → Part → Acting → Did) → Rule id rule → (p : RingPart) (a : Acting) → FoundCarries Is id (Some p) → ActCarries Is a
+      → ActCarries Is (does config p.ring (rule p.ring p.part a) a)
   does_at id rule carries p a found c = does_act Is valid config p.ring (rule p.ring p.part a) a (carries p.ring p.part a found.0 found.1) c
 
   at_acceptors : (id : RingId) (rule : Ring → Part → Acting → Did) → Rule id rule → (a : Acting) → ActCarries Is a
@@ -257,7 +258,8 @@ module _ (Is : ℕ → Entry → Type 0) (valid : (r : ℕ) (e : Entry) → Is r
 
   -- ---- a tick
 
-  rules_act : (id : RingId) (rule : Ring → Part → View → Did) → ((r : Ring) (part : Part) (view : View) → PartCarries Is r.id.0 part → DidCarries Is r.id.0 (rule r part view)) → (a : Acting) → ActCarries Is a
+  rules_act : (id : RingId) (rule : Ring → Part → View → Did) → ((r : Ring) (part : Part) (view : View) → PartCarries Is r.id.0 part → DidCarries Is r.id.0 (rule r part view))
+      → (a : Acting) → ActCarries Is a
       → ActCarries Is (rules_for config id rule a)
   rules_act id rule carries a c = at (part_at a.view id) (part_found Is id a.view.parts c.view.parts)
     where

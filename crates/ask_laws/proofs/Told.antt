@@ -47,7 +47,8 @@ told_now config w asked (Asks id command) hs c s x e = elim (told_by config aske
         )
 told_now config w asked h hs c s x e = inl e
 
-pub told_in : (config : Config) (hs : List Happening) (w : World) (asked : ℕ → ℕ → Option Command) (c s : ℕ) (x : Command) → asked_after config hs w asked c s ≡ Some x → (asked c s ≡ Some x) ⊎ WasTold config hs w c s x
+pub told_in : (config : Config) (hs : List Happening) (w : World) (asked : ℕ → ℕ → Option Command) (c s : ℕ) (x : Command) → asked_after config hs w asked c s ≡ Some x
+    → (asked c s ≡ Some x) ⊎ WasTold config hs w c s x
 told_in config [] w asked c s x e = inl e
 told_in config (h ∷ hs) w asked c s x e = elim (told_in config hs (happens config h w) (asked_with config w h asked) c s x e) [
   | inl now ↦ told_now config w asked h hs c s x now
@@ -95,7 +96,8 @@ ring_same x y a b e f g = cc
 pub one-command : (config : Config) (asked : ℕ → ℕ → Option Command) (r other : ℕ) (a b : Entry) → IsAsked config asked r a → IsAsked config asked other b → a.client.0 ≡ b.client.0 → a.seq ≡ b.seq
     → (r ≡ other) × (a.command ≡ b.command)
 one-command config asked r other a b first second client seq = (
-  ap (λ (x : RingId). x.0) (ring_same (record { 0 = r }) (record { 0 = other }) (route_of (concerned_of first.command config.partitions)) (route_of (concerned_of second.command config.partitions)) first.route second.route
+  ap (λ (x : RingId). x.0) (ring_same (record { 0 = r }) (record { 0 = other }) (route_of (concerned_of first.command config.partitions)) (route_of (concerned_of second.command config.partitions))
+      first.route second.route
       (ap (λ (x : Command). route_of (concerned_of x config.partitions)) same)),
   first.spelled ∙ ap command_bytes same ∙ sym second.spelled,
 )

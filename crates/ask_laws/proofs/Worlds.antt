@@ -1,12 +1,12 @@
 -- Every run keeps that all its entries were asked.
 use Rattle.std.proofs.Common.{◌≡◌, ℕ, Bool, true, false, List, [], ◌∷◌, ◌++◌, Option, Some, None, refl, sym, subst, arith, inl, inr}
 use Rattle.std.specs.Prelude.{◌==◌, if◌then◌else◌}
-use Rattle.std.proofs.lemmas.Bool.Decides.{nat_tests}
 use Rattle.mrp_types.specs.declared.id.ClientId.{ClientId}
 use Rattle.mrp_types.specs.declared.value.Entry.{Entry}
 use Rattle.mrp_types.specs.Entries.{IsEntry}
 use Rattle.command_codec.specs.declared.command.Command.{Command}
 use Rattle.mrp_config.specs.Config.{Config}
+use Rattle.plain_model.proofs.TupleOrder.{same_number, other_number}
 use Rattle.protocol.specs.Lines.{Line}
 use Rattle.protocol.specs.Lines as line
 use Rattle.protocol.specs.Client.{ClientView, ClientDid, asks, client_ticks, client_takes}
@@ -24,9 +24,6 @@ pub record RunKeeps (config : Config) (asked : ℕ → ℕ → Option Command) (
   pub clients : ClientsKeep config asked w.clients
   pub carried : WorldCarries (IsAsked config asked) w
 
-pub entries_valid : (config : Config) (asked : ℕ → ℕ → Option Command) (r : ℕ) (e : Entry) → IsAsked config asked r e → IsEntry e
-entries_valid config asked r e is = is.entry
-
 module _ (config : Config) (old new : ℕ → ℕ → Option Command) (more : (c s : ℕ) (x : Command) → old c s ≡ Some x → new c s ≡ Some x) where
   -- a client is put, which takes what is new
   clients_put : (clients : ℕ → ClientView) (id : ClientId) (view : ClientView) → ClientsKeep config old clients
@@ -34,26 +31,20 @@ module _ (config : Config) (old new : ℕ → ℕ → Option Command) (more : (c
       → ClientKeeps config new id.0 view → ClientsKeep config new (λ k. if k == id.0 then view else clients k)
   clients_put clients id view k own others is = record { taken = taken; each = each }
     where
-      same_number : (i j : ℕ) → (i == j) ≡ true → j ≡ i
-      same_number i j h = grind (arith, nat_tests)
-
-      other_number : (i j : ℕ) → (i == j) ≡ false → j ≡ i → ⊥
-      other_number i j h same = grind (arith, nat_tests)
-
       taken : (c s : ℕ) (x : Command) → new c s ≡ Some x → IsTaken config c s (if c == id.0 then view else clients c).next x
       taken c s x e = by (c == id.0) refl
         where
           by : (t : Bool) → (c == id.0) ≡ t → IsTaken config c s (if t then view else clients c).next x
           by true h =
-              let same = same_number c id.0 h in
+              let same = sym (same_number c id.0 h) in
               subst (λ (n : ℕ). IsTaken config n s view.next x) same (own s x (subst (λ (n : ℕ). new n s ≡ Some x) (sym same) e))
-          by false h = k.taken c s x (others c s x (other_number c id.0 h) e)
+          by false h = k.taken c s x (others c s x (λ same. other_number c id.0 h (sym same)) e)
 
       each : (c : ℕ) → ClientKeeps config new c (if c == id.0 then view else clients c)
       each c = by (c == id.0) refl
         where
           by : (t : Bool) → (c == id.0) ≡ t → ClientKeeps config new c (if t then view else clients c)
-          by true h = subst (λ (n : ℕ). ClientKeeps config new n view) (same_number c id.0 h) is
+          by true h = subst (λ (n : ℕ). ClientKeeps config new n view) (sym (same_number c id.0 h)) is
           by false h = keeps_more config old new c (clients c) (more c) (k.each c)
 
   does_keeps : (id : ClientId) (did : ClientDid) (w : World) → RunKeeps config old w → ((s : ℕ) (x : Command) → new id.0 s ≡ Some x → IsTaken config id.0 s did.client.next x)

@@ -7,7 +7,7 @@ use Rattle.mrp_types.specs.Entries.{IsEntry}
 use Rattle.mrp_types.specs.Book.{Learning}
 use Rattle.command_codec.specs.declared.command.Command.{Command}
 use Rattle.command_codec.specs.Spelling.{command_bytes}
-use Rattle.command_codec.specs.Valid.{IsCommand}
+use Rattle.command_codec.specs.Valid.{IsCommand, HasNumbers}
 use Rattle.mrp_config.specs.declared.routing.NoGroup.{NoGroup}
 use Rattle.mrp_config.specs.Config.{Config}
 use Rattle.mrp_config.specs.Routing.{concerned_of, route_of}
@@ -100,12 +100,17 @@ pub record ClientsKeep (config : Config) (asked : ℕ → ℕ → Option Command
   pub taken : (c s : ℕ) (command : Command) → asked c s ≡ Some command → IsTaken config c s (clients c).next command
   pub each : (c : ℕ) → ClientKeeps config asked c (clients c)
 
--- ---- bytes
+-- ---- what a schedule can ask
 
 -- a command that a client is told to ask is of bytes, as what a schedule spells is
 abbrev pub AsksBytes : Happening → Type 0
 AsksBytes (Asks id command) = IsBytes (command_bytes command)
 AsksBytes other = Unit {0}
+
+-- numbers in it are below 2 ^ 64, as those of the code are
+abbrev pub AsksNumbers : Happening → Type 0
+AsksNumbers (Asks id command) = HasNumbers command
+AsksNumbers other = Unit {0}
 
 -- what the lines tell that was learned, in order
 abbrev pub learned_in : List Line → List Learning

@@ -1,4 +1,4 @@
--- What carries values and waiting commands: each entry in it is one of those that are meant, by ring.
+-- Whatever carries values or waiting commands, by a property of entries and rings: each entry in it has the property.
 use Rattle.std.specs.Prelude.{◌≡◌, ℕ, List, slice_index_or}
 use Rattle.std.specs.List.{AllByRecursion}
 use Rattle.mrp_types.specs.declared.id.NodeId.{NodeId}

@@ -10,6 +10,9 @@ returns-clause-may c = run-may
 pub returns-clause-bytes : goal.returns-clause-bytes
 returns-clause-bytes c = run-bytes
 
+pub returns-clause-numbers : goal.returns-clause-numbers
+returns-clause-numbers c = (tt, (tt, (tt, (tt, tt))))
+
 pub returns-clause-learned : goal.returns-clause-learned
 returns-clause-learned c = run-learns
 
