@@ -1,0 +1,16 @@
+pub mod Lists
+pub mod Acceptor
+pub mod Proposing
+pub mod Coordinating
+pub mod Acting
+pub mod Recovering
+pub mod Stepping
+pub mod More
+pub mod Hosts
+pub mod Commands
+pub mod Clients
+pub mod Asking
+pub mod Worlds
+pub mod Told
+pub mod Reading
+pub mod Example

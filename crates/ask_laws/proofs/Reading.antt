@@ -1,0 +1,97 @@
+-- The entries of a value are read back, and values are bytes where the commands that were asked are.
+use Rattle.std.proofs.Common.{◌≡◌, ◌≤◌, ℕ, Bool, true, false, List, [], ◌∷◌, ◌++◌, Option, Some, Result, Ok, refl, sym, subst, arith, ap, ◌∙◌}
+use Rattle.std.specs.Prelude.{◌==◌, if◌then◌else◌}
+use Rattle.std.specs.List.{AllByRecursion}
+use Rattle.hex.specs.Hex.{IsBytes}
+use Rattle.mrp_types.specs.declared.value.Entry.{Entry}
+use Rattle.mrp_types.specs.declared.value.Value.{Value}
+use Rattle.mrp_types.specs.declared.value.Value.TheVariants.{Skip, Batch}
+use Rattle.command_codec.specs.declared.command.Command.{Command}
+use Rattle.command_codec.specs.declared.fault.CodecFault.{CodecFault}
+use Rattle.command_codec.specs.Grammar.{batch_at, batch_of, command_at, command_of}
+use Rattle.command_codec.specs.Spelling.{command_bytes, batch_bytes, AreEntries, IsBatch}
+use Rattle.command_codec.proofs.BatchLaws.{batch_law}
+use Rattle.command_codec.proofs.Combined.{whole_again}
+use Rattle.command_codec.proofs.CommandLaws.{IsWhole, command_law}
+use Rattle.mrp_config.specs.declared.tables.ClientTable.{ClientTable}
+use Rattle.mrp_config.specs.Config.{Config, client_at}
+use Rattle.mrp_config.specs.Valid.{IsValid, AreAtMost, client_ids}
+use Rattle.plain_model.proofs.TupleOrder.{same_number}
+use Rattle.plain_model.specs.Replicas.{entries_or_none}
+use Rattle.plain_model.specs.Fold.{entries_of_value}
+use Rattle.state_laws.specs.Books.{IsOfBytes, AreOfBytes}
+use Rattle.protocol.specs.Lines.{Line, Learn}
+use Rattle.bare_world.specs.Worlds.{Happening, Asks, nothing}
+use Rattle.bare_world.specs.Runs.{run, MayRun}
+use Rattle.ask_laws.specs.Carried.{ValueCarries, LineCarries}
+use Rattle.ask_laws.specs.Asks.{asked_in, IsAsked, AsksBytes, AsksNumbers, learned_in}
+use Rattle.ask_laws.proofs.Commands.{IsOfBytes as EntryOfBytes, batch_are}
+use Rattle.ask_laws.proofs.Lists.{mapped}
+use Rattle.ask_laws.proofs.Told.{was-told}
+use Rattle.ask_laws.proofs.Worlds.{all_keep}
+
+-- ---- entries
+
+batch_read : (es : List Entry) → IsBatch es → batch_of (batch_bytes es) ≡ Ok es
+batch_read es is = whole_again (List Entry) batch_at batch_bytes AreEntries batch_law es (record { some = is.some; few = is.few; each = is.each })
+
+pub entries-asked : (config : Config) (asked : ℕ → ℕ → Option Command) (r : ℕ) (value : Value) → ValueCarries (IsAsked config asked) r value
+    → AllByRecursion (IsAsked config asked r) (entries_of_value value)
+entries-asked config asked r Skip is = tt
+entries-asked config asked r (Batch batch) is =
+    subst (λ (bytes : List ℕ). AllByRecursion (IsAsked config asked r) (entries_or_none (batch_of bytes))) (sym is.spelled)
+    (subst (λ (x : Result (List Entry) CodecFault). AllByRecursion (IsAsked config asked r) (entries_or_none x)) (sym (batch_read is.entries is.valid)) is.each)
+
+-- ---- bytes
+
+client_small : (most : ℕ) (clients : List ClientTable) (id : ℕ) (table : ClientTable) → AreAtMost most (client_ids clients) → client_at clients id ≡ Some table → id ≤ most
+client_small most [] id table all e = absurd (cc)
+client_small most (c ∷ clients) id table all e = by (c.id.0 == id) refl e (λ h. client_small most clients id table all.1 h)
+  where
+    by : (t : Bool) → (c.id.0 == id) ≡ t → (if t then Some c else client_at clients id) ≡ Some table → (client_at clients id ≡ Some table → id ≤ most) → id ≤ most
+    by true h found later = subst (λ (n : ℕ). n ≤ most) (same_number c.id.0 id h) all.0
+    by false h found later = later found
+
+in_middle : (P : Happening → Type 0) (before after : List Happening) (h : Happening) → AllByRecursion P (before ++ h ∷ after) → P h
+in_middle P [] after h all = all.0
+in_middle P (x ∷ before) after h all = in_middle P before after h all.1
+
+-- what holds of each happening holds of the one that told the command
+told_holds : (P : Happening → Type 0) (config : Config) (hs : List Happening) (c s : ℕ) (command : Command) → AllByRecursion P hs → asked_in config hs c s ≡ Some command → P (Asks (record { 0 = c }) command)
+told_holds P config hs c s command all e =
+    let told = was-told config hs c s command e in
+    in_middle P told.before told.after (Asks (record { 0 = c }) command) (subst (λ (l : List Happening). AllByRecursion P l) told.parts all)
+
+module _ (config : Config) (hs : List Happening) (valid : IsValid config) (bytes : AllByRecursion AsksBytes hs) where
+  entry_of_bytes : (r : ℕ) (e : Entry) → IsAsked config (asked_in config hs) r e → EntryOfBytes e
+  entry_of_bytes r e is = record {
+    client = let small : e.client.0 ≤ 255 = client_small 255 config.clients e.client.0 is.client.0 valid.clients.numbers is.client.1 in omega arith;
+    command = subst (λ (text : List ℕ). IsBytes text) (sym is.spelled) (told_holds AsksBytes config hs e.client.0 e.seq is.command bytes is.told);
+  }
+
+  pub value-of-bytes : (r : ℕ) (value : Value) → ValueCarries (IsAsked config (asked_in config hs)) r value → IsOfBytes value
+  value-of-bytes r Skip is = tt
+  value-of-bytes r (Batch batch) is =
+      subst (λ (text : List ℕ). IsBytes text) (sym is.spelled) (batch_are is.entries (mapped (IsAsked config (asked_in config hs) r) EntryOfBytes (entry_of_bytes r) is.entries is.each))
+
+  lines_of_bytes : (lines : List Line) → AllByRecursion (LineCarries (IsAsked config (asked_in config hs))) lines → AreOfBytes (learned_in lines)
+  lines_of_bytes [] all = tt
+  lines_of_bytes (l ∷ lines) all = by l all.0 (lines_of_bytes lines all.1)
+    where
+      by : (l : Line) → LineCarries (IsAsked config (asked_in config hs)) l → AreOfBytes (learned_in lines) → AreOfBytes (learned_in (l ∷ lines))
+      by (Learn node ring lo hi value) is later = (value-of-bytes ring.0 value is, later)
+      by other is later = later
+
+  pub book-of-bytes : MayRun config nothing hs → AreOfBytes (learned_in (run config hs nothing).lines)
+  book-of-bytes may = lines_of_bytes (run config hs nothing).lines (all_keep config hs may).carried.lines
+
+-- ---- commands
+
+pub command-read : (config : Config) (hs : List Happening) (r : ℕ) (e : Entry) → AllByRecursion AsksNumbers hs → IsAsked config (asked_in config hs) r e
+    → (command : Command) × (asked_in config hs e.client.0 e.seq ≡ Some command) × (command_of e.command ≡ Ok command)
+command-read config hs r e numbers is = (
+  is.command,
+  is.told,
+  ap (λ (text : List ℕ). command_of text) is.spelled
+      ∙ whole_again Command command_at command_bytes IsWhole command_law is.command (is.valid, told_holds AsksNumbers config hs e.client.0 e.seq is.command numbers is.told),
+)

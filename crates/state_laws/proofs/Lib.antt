@@ -1,0 +1,11 @@
+pub mod Going
+pub mod Written
+pub mod Tables
+pub mod Logs
+pub mod Replies
+pub mod Steps
+pub mod Spoken
+pub mod Given
+pub mod Reread
+pub mod Batches
+pub mod Examples

@@ -1,0 +1,3 @@
+pub mod Moving
+pub mod Below
+pub mod NextPlaces
