@@ -10,7 +10,7 @@ use Rattle.mrp_config.specs.declared.routing.NoGroup.{NoGroup}
 use Rattle.mrp_config.specs.Config.{Config}
 use Rattle.mrp_config.specs.Routing.{concerned_of, route_of}
 use Rattle.plain_model.proofs.TupleOrder.{split_and, same_number}
-use Rattle.protocol.specs.Client.{Asked, ClientView, ClientDid, idles, sends_it, asked_first, asks_on, asks_beside, asks}
+use Rattle.protocol.specs.Client.{MayBeAsked, Asked, ClientView, ClientDid, idles, sends_it, asked_first, asks_on, asks_beside, asks}
 use Rattle.bare_world.specs.Runs.{IsClient}
 use Rattle.ask_laws.specs.Asks.{is_free, takes, or_else, IsTaken, ClientKeeps, ClientsKeep}
 use Rattle.ask_laws.proofs.Clients.{or_more, keeps_more, DidKeeps, Sends, submits_carry}
@@ -61,7 +61,7 @@ module _ (config : Config) (asked : ℕ → ℕ → Option Command) (clients : �
     pub keeps : DidKeeps config now_asked id.0 did
     pub taken : (s : ℕ) (x : Command) → now_asked id.0 s ≡ Some x → IsTaken config id.0 s did.client.next x
 
-  module _ (there : IsClient config id) (valid : IsCommand command) (k : ClientsKeep config asked clients) where
+  module _ (there : IsClient config id) (valid : MayBeAsked command) (k : ClientsKeep config asked clients) where
     own_still : ClientKeeps config now_asked id.0 (clients id.0)
     own_still = keeps_more config asked now_asked id.0 (clients id.0) (still_told id.0) (k.each id.0)
 

@@ -16,7 +16,7 @@ use Rattle.mrp_config.specs.Config.{Config, ring_at, partition_at}
 use Rattle.mrp_config.specs.Routing.{concerned_of, route_of, is_concerned}
 use Rattle.frames.specs.declared.body.Body.{Body}
 use Rattle.frames.specs.declared.body.Body.TheVariants as bodies
-use Rattle.protocol.specs.Client.{Asked, ClientView, ClientDid, idles, acceptor_at, acceptors_of, submit_to, submits, sends_it, ticks_for, client_ticks, fits, has_part, with_part, have_all, answers, gathered, replied_with, replied_by, replied_for, replied, client_takes}
+use Rattle.protocol.specs.Client.{MayBeAsked, Asked, ClientView, ClientDid, idles, acceptor_at, acceptors_of, submit_to, submits, sends_it, ticks_for, client_ticks, fits, has_part, with_part, have_all, answers, gathered, replied_with, replied_by, replied_for, replied, client_takes}
 use Rattle.bare_world.specs.Runs.{IsClient}
 use Rattle.ask_laws.specs.Carried.{LineCarries, SentCarries}
 use Rattle.ask_laws.specs.Asks.{or_else, IsAsked, IsTaken, IsAwaited, IsAwaitedOrNone, ClientKeeps}
@@ -62,7 +62,7 @@ module _ (config : Config) (asked : ℕ → ℕ → Option Command) (c : ℕ) wh
   pub record Sends (a : Asked) : Type 0 where
     pub told : asked c a.seq ≡ Some a.command
     pub route : route_of (concerned_of a.command config.partitions) ≡ Ok a.ring
-    pub valid : IsCommand a.command
+    pub valid : MayBeAsked a.command
     pub client : IsClient config (record { 0 = c })
     pub some : 1 ≤ a.seq
     pub numbered : a.seq < 2 ^ 63
@@ -75,7 +75,7 @@ module _ (config : Config) (asked : ℕ → ℕ → Option Command) (c : ℕ) wh
     route = is.route;
     valid = is.valid;
     client = is.client;
-    entry = record { asked = is.some; numbered = is.numbered; short = short_command a.command is.valid };
+    entry = record { asked = is.some; numbered = is.numbered; short = short_command a.command is.valid.valid };
   }
 
   pub submits_carry : (view : ClientView) (a : Asked) → view.id ≡ record { 0 = c } → Sends a → AllByRecursion (SentCarries (IsAsked config asked)) (submits config view a)

@@ -11,6 +11,7 @@ use Rattle.command_codec.specs.Reader.{bytes_at, number_at, within, length_at, s
 use Rattle.hex.specs.Hex.{IsBytes}
 use Rattle.plain_model.specs.Replicas.{effect_of, apply}
 use Rattle.plain_model.specs.StateBytes.{state_bytes}
+use Rattle.command_codec.specs.Spelling.{command_bytes}
 use Rattle.protocol.specs.Ballots.{covered_to}
 use Rattle.protocol.specs.Client.{asks}
 use Rattle.protocol.specs.Coordinator.{leads, submits}
@@ -28,26 +29,26 @@ use Rattle.vote_state.specs.Ranges.{ranges_of, are_held}
 use Rattle.bare_world.specs.Worlds.{nothing}
 use Rattle.bare_world.specs.Runs.{run, MayRun}
 use Rattle.state_laws.proofs.Examples.{bytes_by}
-use Rattle.ask_laws.specs.Asks.{AsksBytes, learned_in, asked_in, IsAsked}
+use Rattle.ask_laws.specs.Asks.{learned_in, asked_in, IsAsked}
 use Rattle.ask_laws.specs.Example.{config, command, entry, a_run, learned}
 
 pub run-learns : learned_in (run config a_run nothing).lines ≡ learned ∷ []
 unfolding u16_bytes u64_bytes append_at command_of_kind command_at entry_at batch_at bytes_at number_at within length_at string_at is_concerned effect_of apply state_bytes covered_to asks leads submits are_all_held met_over gap_after learns does merges opened first_where offers proposing proposes_after restores chooses begins members_of step spread_over quiet_after ranges_of are_held lib.Count.ones
 run-learns = refl
 
+asked_bytes : IsBytes (command_bytes command)
+unfolding u16_bytes
+asked_bytes = bytes_by (1 ∷ 0 ∷ 0 ∷ 1 ∷ 120 ∷ []) (omega arith, (omega arith, (omega arith, (omega arith, (omega arith, tt)))))
+
 pub run-may : MayRun config nothing a_run
 unfolding asks opened begins chooses restores merges members_of is_concerned
 run-may = (
-  ((_, refl), (omega arith, omega arith)),
+  ((_, refl), record { valid = (omega arith, omega arith); numbers = tt; bytes = asked_bytes }),
   (
     record { node = (_, refl); epoch = refl; rings = refl; newest = refl; readable = λ p newest is none. absurd (cc) },
     (tt, (record { sent = _; there = inl refl; by = refl; same = refl }, tt)),
   ),
 )
-
-pub run-bytes : AllByRecursion AsksBytes a_run
-unfolding u16_bytes
-run-bytes = (bytes_by (1 ∷ 0 ∷ 0 ∷ 1 ∷ 120 ∷ []) (omega arith, (omega arith, (omega arith, (omega arith, (omega arith, tt))))), (tt, (tt, (tt, tt))))
 
 node_address : IsAddress (49 ∷ 50 ∷ 55 ∷ 46 ∷ 48 ∷ 46 ∷ 48 ∷ 46 ∷ 49 ∷ 58 ∷ 55 ∷ 49 ∷ 48 ∷ 48 ∷ [])
 unfolding digits
@@ -112,7 +113,7 @@ entry-asked = record {
   told = refl;
   spelled = refl;
   route = refl;
-  valid = (omega arith, omega arith);
+  valid = record { valid = (omega arith, omega arith); numbers = tt; bytes = asked_bytes };
   client = (_, refl);
   entry = record { asked = omega arith; numbered = omega arith; short = omega arith };
 }

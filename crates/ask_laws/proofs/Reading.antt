@@ -24,7 +24,7 @@ use Rattle.protocol.specs.Lines.{Line, Learn}
 use Rattle.bare_world.specs.Worlds.{Happening, Asks, nothing}
 use Rattle.bare_world.specs.Runs.{run, MayRun}
 use Rattle.ask_laws.specs.Carried.{ValueCarries, LineCarries}
-use Rattle.ask_laws.specs.Asks.{asked_in, IsAsked, AsksBytes, AsksNumbers, learned_in}
+use Rattle.ask_laws.specs.Asks.{asked_in, IsAsked, learned_in}
 use Rattle.ask_laws.proofs.Commands.{IsOfBytes as EntryOfBytes, batch_are}
 use Rattle.ask_laws.proofs.Lists.{mapped}
 use Rattle.ask_laws.proofs.Told.{was-told}
@@ -52,21 +52,11 @@ client_small most (c ∷ clients) id table all e = by (c.id.0 == id) refl e (λ 
     by true h found later = subst (λ (n : ℕ). n ≤ most) (same_number c.id.0 id h) all.0
     by false h found later = later found
 
-in_middle : (P : Happening → Type 0) (before after : List Happening) (h : Happening) → AllByRecursion P (before ++ h ∷ after) → P h
-in_middle P [] after h all = all.0
-in_middle P (x ∷ before) after h all = in_middle P before after h all.1
-
--- what holds of each happening holds of the one that told the command
-told_holds : (P : Happening → Type 0) (config : Config) (hs : List Happening) (c s : ℕ) (command : Command) → AllByRecursion P hs → asked_in config hs c s ≡ Some command → P (Asks (record { 0 = c }) command)
-told_holds P config hs c s command all e =
-    let told = was-told config hs c s command e in
-    in_middle P told.before told.after (Asks (record { 0 = c }) command) (subst (λ (l : List Happening). AllByRecursion P l) told.parts all)
-
-module _ (config : Config) (hs : List Happening) (valid : IsValid config) (bytes : AllByRecursion AsksBytes hs) where
+module _ (config : Config) (hs : List Happening) (valid : IsValid config) where
   entry_of_bytes : (r : ℕ) (e : Entry) → IsAsked config (asked_in config hs) r e → EntryOfBytes e
   entry_of_bytes r e is = record {
     client = let small : e.client.0 ≤ 255 = client_small 255 config.clients e.client.0 is.client.0 valid.clients.numbers is.client.1 in omega arith;
-    command = subst (λ (text : List ℕ). IsBytes text) (sym is.spelled) (told_holds AsksBytes config hs e.client.0 e.seq is.command bytes is.told);
+    command = subst (λ (text : List ℕ). IsBytes text) (sym is.spelled) is.valid.bytes;
   }
 
   pub value-of-bytes : (r : ℕ) (value : Value) → ValueCarries (IsAsked config (asked_in config hs)) r value → IsOfBytes value
@@ -87,11 +77,11 @@ module _ (config : Config) (hs : List Happening) (valid : IsValid config) (bytes
 
 -- ---- commands
 
-pub command-read : (config : Config) (hs : List Happening) (r : ℕ) (e : Entry) → AllByRecursion AsksNumbers hs → IsAsked config (asked_in config hs) r e
+pub command-read : (config : Config) (hs : List Happening) (r : ℕ) (e : Entry) → IsAsked config (asked_in config hs) r e
     → (command : Command) × (asked_in config hs e.client.0 e.seq ≡ Some command) × (command_of e.command ≡ Ok command)
-command-read config hs r e numbers is = (
+command-read config hs r e is = (
   is.command,
   is.told,
   ap (λ (text : List ℕ). command_of text) is.spelled
-      ∙ whole_again Command command_at command_bytes IsWhole command_law is.command (is.valid, told_holds AsksNumbers config hs e.client.0 e.seq is.command numbers is.told),
+      ∙ whole_again Command command_at command_bytes IsWhole command_law is.command (is.valid.valid, is.valid.numbers),
 )

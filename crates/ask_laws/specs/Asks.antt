@@ -1,18 +1,16 @@
 -- What clients were told to ask in a run, and which entries were asked.
 use Rattle.std.specs.Prelude.{◌++◌, ◌≡◌, ◌<◌, ◌≤◌, ◌+◌, ◌^◌, ℕ, ◌==◌, nat_lt, ◌&&◌, Bool, true, false, if◌then◌else◌, List, [], ◌∷◌, Option, Some, None, Result, Ok, Err}
-use Rattle.hex.specs.Hex.{IsBytes}
 use Rattle.mrp_types.specs.declared.id.RingId.{RingId}
 use Rattle.mrp_types.specs.declared.value.Entry.{Entry}
 use Rattle.mrp_types.specs.Entries.{IsEntry}
 use Rattle.mrp_types.specs.Book.{Learning}
 use Rattle.command_codec.specs.declared.command.Command.{Command}
 use Rattle.command_codec.specs.Spelling.{command_bytes}
-use Rattle.command_codec.specs.Valid.{IsCommand, HasNumbers}
 use Rattle.mrp_config.specs.declared.routing.NoGroup.{NoGroup}
 use Rattle.mrp_config.specs.Config.{Config}
 use Rattle.mrp_config.specs.Routing.{concerned_of, route_of}
 use Rattle.protocol.specs.Lines.{Line, Learn}
-use Rattle.protocol.specs.Client.{Asked, ClientView}
+use Rattle.protocol.specs.Client.{Asked, ClientView, MayBeAsked}
 use Rattle.bare_world.specs.Worlds.{World, Happening, Asks, happens, nothing}
 use Rattle.bare_world.specs.Runs.{IsClient, run}
 
@@ -65,7 +63,7 @@ pub record IsAsked (config : Config) (asked : ℕ → ℕ → Option Command) (r
   pub told : asked e.client.0 e.seq ≡ Some command
   pub spelled : e.command ≡ command_bytes command
   pub route : route_of (concerned_of command config.partitions) ≡ Ok (record { 0 = ring })
-  pub valid : IsCommand command
+  pub valid : MayBeAsked command
   pub client : IsClient config e.client
   pub entry : IsEntry e
 
@@ -74,7 +72,7 @@ pub record IsAsked (config : Config) (asked : ℕ → ℕ → Option Command) (r
 -- a command that was taken: its client, its number, which is below the client's next one, and its ring
 pub record IsTaken (config : Config) (c s next : ℕ) (command : Command) : Type 0 where
   pub client : IsClient config (record { 0 = c })
-  pub valid : IsCommand command
+  pub valid : MayBeAsked command
   pub ring : RingId
   pub route : route_of (concerned_of command config.partitions) ≡ Ok ring
   pub some : 1 ≤ s
@@ -100,17 +98,7 @@ pub record ClientsKeep (config : Config) (asked : ℕ → ℕ → Option Command
   pub taken : (c s : ℕ) (command : Command) → asked c s ≡ Some command → IsTaken config c s (clients c).next command
   pub each : (c : ℕ) → ClientKeeps config asked c (clients c)
 
--- ---- what a schedule can ask
-
--- a command that a client is told to ask is of bytes, as what a schedule spells is
-abbrev pub AsksBytes : Happening → Type 0
-AsksBytes (Asks id command) = IsBytes (command_bytes command)
-AsksBytes other = Unit {0}
-
--- numbers in it are below 2 ^ 64, as those of the code are
-abbrev pub AsksNumbers : Happening → Type 0
-AsksNumbers (Asks id command) = HasNumbers command
-AsksNumbers other = Unit {0}
+-- ---- lines
 
 -- what the lines tell that was learned, in order
 abbrev pub learned_in : List Line → List Learning

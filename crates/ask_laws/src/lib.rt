@@ -22,7 +22,7 @@ ghost use Rattle.state_laws.specs.Books.{IsOfBytes, AreOfBytes};
 ghost use Rattle.bare_world.specs.Worlds.{Happening, nothing};
 ghost use Rattle.bare_world.specs.Runs.{run, MayRun};
 ghost use Rattle.ask_laws.specs.Carried.{ValueCarries, WorldCarries};
-ghost use Rattle.ask_laws.specs.Asks.{asked_in, IsAsked, WasTold, ClientsKeep, AsksBytes, AsksNumbers, learned_in};
+ghost use Rattle.ask_laws.specs.Asks.{asked_in, IsAsked, WasTold, ClientsKeep, learned_in};
 ghost use Rattle.ask_laws.specs.Example.{config, a_run, learned, entry};
 
 /// In every run each value is Skip or the one spelling of a batch whose entries were asked on its ring: in a vote that is kept,
@@ -69,19 +69,17 @@ pub fn values_spell_asked_entries()
         AllByRecursion (IsAsked config asked ring) (entries_of_value value) }
 {}
 
-/// Where the numbers in the commands that clients are told to ask are below 2 ^ 64, an entry's bytes are read as the command that
-/// its client took.
+/// An entry's bytes are read as the command that its client took.
 pub fn entries_are_read_as_asked()
-    ensures { (config : Config) (hs : List Happening) (ring : ℕ) (e : Entry) → AllByRecursion AsksNumbers hs → IsAsked config (asked_in config hs) ring e →
+    ensures { (config : Config) (hs : List Happening) (ring : ℕ) (e : Entry) → IsAsked config (asked_in config hs) ring e →
         (command : Command) × (asked_in config hs e.client.0 e.seq ≡ Some command) × (command_of e.command ≡ Ok command) }
 {}
 
-/// In a valid deployment, where the commands that clients are told to ask are of bytes, each value is of bytes, and so are all
-/// values of the book.
+/// In a valid deployment each value is of bytes, and so are all values of the book.
 pub fn values_are_of_bytes()
-    ensures value { (config : Config) (hs : List Happening) (ring : ℕ) (value : Value) → IsValid config → AllByRecursion AsksBytes hs →
+    ensures value { (config : Config) (hs : List Happening) (ring : ℕ) (value : Value) → IsValid config →
         ValueCarries (IsAsked config (asked_in config hs)) ring value → IsOfBytes value }
-    ensures book { (config : Config) (hs : List Happening) → IsValid config → AllByRecursion AsksBytes hs → MayRun config nothing hs →
+    ensures book { (config : Config) (hs : List Happening) → IsValid config → MayRun config nothing hs →
         AreOfBytes (learned_in (run config hs nothing).lines) }
 {}
 
@@ -89,8 +87,6 @@ pub fn values_are_of_bytes()
 pub fn a_command_is_learned()
     ensures valid { IsValid config }
     ensures may { MayRun config nothing a_run }
-    ensures bytes { AllByRecursion AsksBytes a_run }
-    ensures numbers { AllByRecursion AsksNumbers a_run }
     ensures learned { learned_in (run config a_run nothing).lines ≡ learned ∷ [] }
     ensures asked { IsAsked config (asked_in config a_run) 0 entry }
 {}

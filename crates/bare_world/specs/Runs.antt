@@ -8,7 +8,6 @@ use Rattle.mrp_config.specs.Config.{Config, node_at, client_at}
 use Rattle.mrp_config.specs.declared.tables.NodeTable.{NodeTable}
 use Rattle.mrp_config.specs.declared.tables.ClientTable.{ClientTable}
 use Rattle.mrp_config.specs.declared.tables.PartitionTable.{PartitionTable}
-use Rattle.command_codec.specs.Valid.{IsCommand}
 use Rattle.frames.specs.declared.body.Body.{Body}
 use Rattle.frames.specs.declared.frame.Frame.{Frame}
 use Rattle.frames.specs.declared.sent.Sent.{Sent}
@@ -21,6 +20,7 @@ use Rattle.plain_model.specs.StateBytes.{whole_state}
 use Rattle.plain_model.specs.Tuples.{round_sizes, is_tuple_of}
 use Rattle.protocol.specs.Opening.{partition_of}
 use Rattle.protocol.specs.Node.{Event, Takes}
+use Rattle.protocol.specs.Client.{MayBeAsked}
 use Rattle.bare_world.specs.Worlds.{Possible, Host, Up, Down, World, Happening, Steps, Breaks, Crashes, Opens, Fails, Asks, ClientTicks, ClientTakes, Shows, Lists, chosen, happens}
 
 -- ---- frames
@@ -89,7 +89,7 @@ MayHappen config w (Breaks id event cause) = MayCome w id event
 MayHappen config w (Crashes id cause) = Unit {0}
 MayHappen config w (Opens id after journal checks) = MayOpenAt config id after journal checks (w.hosts id.0)
 MayHappen config w (Fails id after left cause) = IsNode config id × MayLeaveAt after left (w.hosts id.0)
-MayHappen config w (Asks id command) = IsClient config id × IsCommand command
+MayHappen config w (Asks id command) = IsClient config id × MayBeAsked command
 MayHappen config w (ClientTicks id) = IsClient config id
 MayHappen config w (ClientTakes id body) = IsClient config id × BodyWasSent w.frames (Client id) body
 MayHappen config w (Shows id) = IsNode config id

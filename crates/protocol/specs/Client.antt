@@ -13,7 +13,9 @@ use Rattle.command_codec.specs.declared.reply.TableEntry.{TableEntry}
 use Rattle.command_codec.specs.declared.reply.Reply.{Reply}
 use Rattle.command_codec.specs.declared.reply.Reply.TheVariants as replies
 use Rattle.command_codec.specs.declared.fault.CodecFault.{CodecFault}
+use Rattle.hex.specs.Hex.{IsBytes}
 use Rattle.command_codec.specs.Spelling.{command_bytes}
+use Rattle.command_codec.specs.Valid.{IsCommand, HasNumbers}
 use Rattle.command_codec.specs.Grammar.{reply_of}
 use Rattle.command_codec.specs.Replies.{reply_bytes, joined}
 use Rattle.mrp_config.specs.declared.tables.RingTable.{RingTable}
@@ -87,6 +89,13 @@ abbrev pub sends_it : Config → ClientView → Asked → ClientDid
 sends_it config c a = record { client = record c { asked = Some a }; frames = submits config c a; lines = [] }
 
 -- ---- asking
+
+-- A command that a client may be told to ask: it has a spelling, of bytes, and its numbers are below 2 ^ 64, as those of the
+-- code are.
+pub record MayBeAsked (command : Command) : Type 0 where
+  pub valid : IsCommand command
+  pub numbers : HasNumbers command
+  pub bytes : IsBytes (command_bytes command)
 
 abbrev pub asked_first : ℕ → Command → RingId → Asked
 asked_first seq command ring = record { seq = seq; command = command; ring = ring; ticks = 0; tries = 0; parts = [] }

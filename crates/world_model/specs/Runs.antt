@@ -4,7 +4,7 @@ use Rattle.mrp_types.specs.declared.id.NodeId.{NodeId}
 use Rattle.mrp_config.specs.Config.{Config}
 use Rattle.disk_model.specs.declared.areas.Areas.{Areas}
 use Rattle.disk_model.specs.Calls.{IsImage}
-use Rattle.command_codec.specs.Valid.{IsCommand}
+use Rattle.protocol.specs.Client.{MayBeAsked}
 use Rattle.world_model.specs.Events.{ScheduleEvent}
 use Rattle.world_model.specs.Events as event
 use Rattle.world_model.specs.Worlds.{Host, Up, Down, World, Outcome, quiet, and_then, node_at, happens, comes_back, started}
@@ -26,9 +26,9 @@ MayReturn image None = Unit {0}
 MayReturn image (Some (Up view disk)) = Unit {0}
 MayReturn image (Some (Down told plan)) = IsImage told image
 
--- a command that is asked has a spelling; any other event may stand in a schedule
+-- a command that is asked may be; any other event may stand in a schedule
 abbrev pub MayBeScheduled : ScheduleEvent → Type 0
-MayBeScheduled (event.Ask client command) = IsCommand command
+MayBeScheduled (event.Ask client command) = MayBeAsked command
 MayBeScheduled other = Unit {0}
 
 abbrev pub MayHappen : World → Happening → Type 0

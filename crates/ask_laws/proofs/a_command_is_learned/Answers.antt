@@ -1,4 +1,4 @@
-use Rattle.ask_laws.proofs.Example.{run-valid, run-may, run-bytes, run-learns, entry-asked}
+use Rattle.ask_laws.proofs.Example.{run-valid, run-may, run-learns, entry-asked}
 use Rattle.ask_laws.proofs.a_command_is_learned.Goals as goal
 
 pub returns-clause-valid : goal.returns-clause-valid
@@ -6,12 +6,6 @@ returns-clause-valid c = run-valid
 
 pub returns-clause-may : goal.returns-clause-may
 returns-clause-may c = run-may
-
-pub returns-clause-bytes : goal.returns-clause-bytes
-returns-clause-bytes c = run-bytes
-
-pub returns-clause-numbers : goal.returns-clause-numbers
-returns-clause-numbers c = (tt, (tt, (tt, (tt, tt))))
 
 pub returns-clause-learned : goal.returns-clause-learned
 returns-clause-learned c = run-learns
