@@ -1,0 +1,5 @@
+pub mod Growing
+pub mod Ordering
+pub mod Quorum
+pub mod Between
+pub mod Moving
