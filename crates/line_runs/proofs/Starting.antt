@@ -1,18 +1,24 @@
 -- The world before anything was printed: each node is down, and its disk stands for nothing.
-use Rattle.std.proofs.Common.{◌≡◌, ℕ, ◌<◌, inl, inr, Bool, true, List, [], ◌∷◌, Option, Some, None, refl, sym, arith}
-use Rattle.std.specs.Prelude.{◌==◌, nat_eq}
-use Rattle.std.proofs.lemmas.Bool.Decides.{nat_tests}
+use Rattle.checkpoint.specs.Rows.{state}
+use Rattle.faithful.proofs.Quorum.{reaches, there}
+use Rattle.disk_model.specs.Calls.{kept}
+use Rattle.plain_model.proofs.TupleOrder.{first_is_front, front_is_valid}
+use Rattle.std.proofs.Common.{◌≡◌, ℕ, zero, suc, ◌<◌, ◌⊎◌, inl, inr, List, [], ◌∷◌, Option, Some, None, refl, arith, true}
+use Rattle.std.specs.Prelude.{replicate, slice_index_or}
 use Rattle.mrp_types.specs.declared.id.RingId.{RingId}
 use Rattle.mrp_types.specs.declared.place.Place.{Place}
 use Rattle.mrp_config.specs.Config.{Config}
 use Rattle.mrp_config.specs.declared.tables.PartitionTable.{PartitionTable}
 use Rattle.plain_model.specs.Tuples.{round_sizes, first_tuple, has_rings, IsBelow}
-use Rattle.plain_model.proofs.TupleOrder.{first_is_front, front_is_valid}
 use Rattle.protocol.specs.Opening.{partition_of}
-use Rattle.recovery_lines.specs.Ties.{KeptLines}
-use Rattle.line_runs.specs.Seen.{Possible, IsDown, node, PossibleFor, PossibleLines, WorldLines}
+use Rattle.vote_state.specs.State.{State, nothing_kept, no_votes, trim_at}
+use Rattle.vote_state.specs.declared.ring.RingState.{RingState}
+use Rattle.bare_world.specs.Worlds.{nothing}
 use Rattle.faithful.proofs.Growing.{same_number}
 use Rattle.faithful.proofs.Ordering.{is_tuple}
+use Rattle.recovery_lines.specs.Ties.{KeptLines, AreCovered}
+use Rattle.step_lines.specs.Dids.{KeptFor}
+use Rattle.line_runs.specs.Invariant.{node, PossibleLines, WorldLines}
 
 none_below : (rings : List RingId) (p : Place) → IsBelow p (first_tuple rings) → ⊥
 none_below [] p below = below
@@ -31,15 +37,17 @@ kept_first c n p = record {
   reaches = λ earlier h. absurd h;
 }
 
-abbrev pub nothing : Possible
-nothing = record { epoch = 0; newest = None }
+no_trim : (k i : ℕ) → (slice_index_or (replicate k no_votes) i no_votes).trim ≡ 0
+no_trim zero i = refl
+no_trim (suc k) zero = refl
+no_trim (suc k) (suc i) = no_trim k i
 
-pub first_world : (c : Config) → WorldLines c (record { host = λ n. IsDown nothing nothing; frames = []; lines = [] })
+pub first_world : (c : Config) → WorldLines c nothing
 first_world c = record { faithful = tt; known = λ r p k replica valid h. absurd h; frames = tt; hosts = λ n. (one n, one n) }
   where
-    one : (n : ℕ) → PossibleLines c [] n nothing
-    one n = go (partition_of c.partitions (node n))
+    one : (n : ℕ) → PossibleLines c [] n (record { state = nothing_kept; newest = None })
+    one n = record { kept = go (partition_of c.partitions (node n)); covered = λ ring. inl (no_trim 16 ring.0) }
       where
-        go : (o : Option PartitionTable) → PossibleFor c [] n nothing o
+        go : (o : Option PartitionTable) → KeptFor c [] (node n) 0 None o
         go None = tt
         go (Some p) = kept_first c n p

@@ -104,6 +104,30 @@ entry_same (g ∷ rings) ring (x ∷ k) h =
     go true e = refl
     go false e = e
 
+pub in_partitions : (ring : RingId) (ps : List PartitionTable) (p : PartitionTable) → Has (subscribers_of ps ring) p → Has ps p
+in_partitions ring [] p h = absurd h
+in_partitions ring (q ∷ ps) p h = go (has_ring q.rings ring.0) h (λ g. in_partitions ring ps p g)
+  where
+    go : (b : Bool) → Has (if b then q ∷ subscribers_of ps ring else subscribers_of ps ring) p → (Has (subscribers_of ps ring) p → Has ps p) → Has (q ∷ ps) p
+    go true (inl e) rest = inl e
+    go true (inr g) rest = inr (rest g)
+    go false g rest = inr (rest g)
+
+low : (e n : ℕ) → min e n ≤ e
+low e n = omega arith
+
+-- what its newest checkpoint makes safe was told, or is 0
+pub own_safe : (c : Config) (lines : List Line) (x : ℕ) (ring : RingId) (p : PartitionTable) (o : Option Checkpoint) → Has (told x lines) (newest_of p o) → is_tuple_of (round_sizes c) p.rings (tuple_of_newest p o) ≡ true
+    → (safe_in ring o ≡ 0) ⊎ (some_reaches p.rings ring (safe_in ring o) (told x lines) ≡ true)
+own_safe c lines x ring p None tells valid = inl refl
+own_safe c lines x ring p (Some newest) tells valid =
+    let least : min (unwrap_or (entry_at ring newest.tuple) 0) (END - 1) ≤ unwrap_or (entry_at ring newest.tuple) 0 = low (unwrap_or (entry_at ring newest.tuple) 0) (END - 1) in
+    inr (is_some_reaches p.rings ring (min (unwrap_or (entry_at ring newest.tuple) 0) (END - 1)) (told x lines) (record {
+      tuple = instances newest.tuple;
+      there = tells;
+      reaches = subst (λ (n : ℕ). min (unwrap_or (entry_at ring newest.tuple) 0) (END - 1) ≤ n) (entry_same p.rings ring newest.tuple (rings_fit (round_sizes c) p.rings newest.tuple valid)) least;
+    }))
+
 module _ (c : Config) (fit : IsFit c) (before : List Line) (a : Acting) (lines : List Line) (ties : ActLines c before lines a) where
   pub as_it_was : AfterLines c before a
   as_it_was = record { lines = lines; ties = ties }
@@ -154,39 +178,14 @@ module _ (c : Config) (fit : IsFit c) (before : List Line) (a : Acting) (lines :
         (λ e. sent_lines (sends_to a.view.id from (Safe ring round (safe_in ring a.view.checks.newest)))
         (said_sends c lines a.view.id from (Safe ring round (safe_in ring a.view.checks.newest)) safe)) as_it_was)
       where
-        low : (e n : ℕ) → min e n ≤ e
-        low e n = omega arith
-
-        by_newest : (o : Option Checkpoint) → a.view.checks.newest ≡ o → (safe_in ring o ≡ 0) ⊎ (some_reaches service.partition.rings ring (safe_in ring o) (told a.view.id.0 lines) ≡ true)
-        by_newest None e = inl refl
-        by_newest (Some newest) e =
-            let tells : Has (told a.view.id.0 lines) (instances newest.tuple) = subst (λ (o : Option Checkpoint). Has (told a.view.id.0 lines) (newest_of service.partition o)) e mine in
-            let valid : is_tuple_of (round_sizes c) service.partition.rings newest.tuple ≡ true =
-            subst (λ (o : Option Checkpoint). is_tuple_of (round_sizes c) service.partition.rings (tuple_of_newest service.partition o) ≡ true) e own.kept.valid in
-            let least : min (unwrap_or (entry_at ring newest.tuple) 0) (END - 1) ≤ unwrap_or (entry_at ring newest.tuple) 0 = low (unwrap_or (entry_at ring newest.tuple) 0) (END - 1) in
-            inr (is_some_reaches service.partition.rings ring (min (unwrap_or (entry_at ring newest.tuple) 0) (END - 1)) (told a.view.id.0 lines) (record {
-              tuple = instances newest.tuple;
-              there = tells;
-              reaches = subst (λ (n : ℕ). min (unwrap_or (entry_at ring newest.tuple) 0) (END - 1) ≤ n) (entry_same service.partition.rings ring newest.tuple (rings_fit (round_sizes c) service.partition.rings newest.tuple valid)) least;
-            }))
-
         some_same : (u v : PartitionTable) → Some u ≡ Some v → u ≡ v
         some_same u v t = cc
 
-        in_partitions : (ps : List PartitionTable) (p : PartitionTable) → Has (subscribers_of ps ring) p → Has ps p
-        in_partitions [] p h = absurd h
-        in_partitions (q ∷ ps) p h = go (has_ring q.rings ring.0) h (λ g. in_partitions ps p g)
-          where
-            go : (b : Bool) → Has (if b then q ∷ subscribers_of ps ring else subscribers_of ps ring) p → (Has (subscribers_of ps ring) p → Has ps p) → Has (q ∷ ps) p
-            go true (inl e) rest = inl e
-            go true (inr g) rest = inr (rest g)
-            go false g rest = inr (rest g)
-
         safe : IsSafe c lines ring (a.view.id, safe_in ring a.view.checks.newest)
         safe p has replica =
-            let same : service.partition ≡ p = some_same service.partition p (sym own.replica ∙ fit.alone p a.view.id (in_partitions c.partitions p has) replica) in
+            let same : service.partition ≡ p = some_same service.partition p (sym own.replica ∙ fit.alone p a.view.id (in_partitions ring c.partitions p has) replica) in
             subst (λ (q : PartitionTable). (safe_in ring a.view.checks.newest ≡ 0) ⊎ (some_reaches q.rings ring (safe_in ring a.view.checks.newest) (told a.view.id.0 lines) ≡ true)) same
-            (by_newest a.view.checks.newest refl)
+            (own_safe c lines a.view.id.0 ring service.partition a.view.checks.newest mine own.kept.valid)
 
     -- ---- an attempt
 

@@ -33,10 +33,10 @@ use Rattle.faithful.specs.Scanners.{past, touches, or_else, told, tuples_told, l
 use Rattle.faithful.specs.Rules.{HaveTold, AllHaveTold, IsFaithfulLine, AreFaithful}
 use Rattle.step_lines.specs.Dids.{IsPlain, DidTold, AllTold, Onward}
 use Rattle.step_lines.proofs.Onward.{put_rings}
-use Rattle.recovery_lines.specs.Ties.{IsFit, IsSaid, PartLines, CurrentLines, KnownLines, KeptLines, ReplicaLines, DoneLines, ActLines, AfterLines, StepLines, ViewLines, IsOf}
+use Rattle.recovery_lines.specs.Ties.{IsFit, IsSaid, PartLines, CurrentLines, KnownLines, KeptLines, ReplicaLines, DoneLines, ActLines, AfterLines, StepLines, ViewLines, IsOf, AreCovered, IsCovered, PartTold}
 use Rattle.faithful.proofs.Growing.{past_more, book_more}
 use Rattle.faithful.proofs.Quorum.{appended, mapped, count_cons}
-use Rattle.recovery_lines.proofs.More.{some_more, RoundLines-more, IsSaid-more, PartLines-more, KnownLines-more, AllKnown-more, ReplicaLines-quiet, KeptLines-same, quiet_own}
+use Rattle.recovery_lines.proofs.More.{some_more, RoundLines-more, IsSaid-more, PartLines-more, KnownLines-more, AllKnown-more, ReplicaLines-quiet, KeptLines-same, quiet_own, AllHaveTold-more}
 use Rattle.recovery_lines.proofs.Merging.{merged_all}
 
 -- ---- changes

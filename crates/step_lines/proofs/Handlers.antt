@@ -1,5 +1,10 @@
 -- The rules of a ring: each leaves the learner, and what was told.
-use Rattle.std.proofs.Common.{◌≡◌, ℕ, zero, suc, ◌+◌, ◌<◌, ◌≤◌, Bool, true, false, List, [], ◌∷◌, ◌++◌, Option, Some, None, refl, sym, ◌∙◌, ap, subst}
+use Rattle.recovery_lines.proofs.Hearing.{by_test}
+use Rattle.skip_leveller.specs.Levelling.{answer_of}
+use Rattle.faithful.proofs.Quorum.{appended}
+use Rattle.range_map.specs.Entries.{entries_from}
+use Rattle.mrp_types.specs.declared.value.Entry.{Entry}
+use Rattle.std.proofs.Common.{◌≡◌, ℕ, zero, suc, ◌+◌, ◌<◌, ◌≤◌, Bool, true, false, List, [], ◌∷◌, ◌++◌, Option, Some, None, refl, sym, ◌∙◌, ap, subst, slice_index, bytes_eq}
 use Rattle.std.specs.Prelude.{◌==◌, nat_eq, nat_lt, nat_le, ◌&&◌, ◌||◌, not, if◌then◌else◌, min, max, length, ◌-◌, ◌^◌}
 use Rattle.std.specs.List.{AllByRecursion}
 use Rattle.mrp_types.specs.declared.id.NodeId.{NodeId}
@@ -23,7 +28,7 @@ use Rattle.protocol.specs.Coordinator.{starts_with, starts_at, leads, promised, 
 use Rattle.protocol.specs.Leading.{is_to_start, starts_idle, starts_on_tick, prepares_again, accepts_again, resends_in, resends, with_tick_taken, shortfall_from, levels_by, levels_in, levels}
 use Rattle.protocol.specs.Learner.{learned_ranges, passed_on, decided, chosen}
 use Rattle.protocol.specs.Proposing.{proposes, proposes_after, offers, has_room, own_mask}
-use Rattle.protocol.specs.Trimming.{trimmed}
+use Rattle.protocol.specs.Trimming.{trimmed, answered_of}
 use Rattle.recovery_lines.specs.Ties.{IsSaid, IsCovered}
 use Rattle.step_lines.specs.Dids.{DidTold, Stays}
 use Rattle.step_lines.proofs.Words.{ring_sends, ring_sends_each, Stays-refl, Stays-trans, stays_frames, stays_line, stays_learned, stays_coordinator, stays_votes, stays_promises, stays_trims, stays_goes_on, stays_offers, proposes_stays}

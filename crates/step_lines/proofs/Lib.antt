@@ -4,3 +4,10 @@ pub mod Handlers
 pub mod Onward
 pub mod Composing
 pub mod Looping
+pub mod Recovery
+pub mod Going
+pub mod Bodies
+pub mod Ending
+pub mod Ticks
+pub mod Whole
+pub mod Opening

@@ -1,6 +1,10 @@
 -- A rule of a ring and all that it decides, range by range: the lines are right where each learn line agrees with the book
 -- before it.
-use Rattle.std.proofs.Common.{◌≡◌, ℕ, zero, suc, ◌+◌, ◌^◌, ◌<◌, ◌≤◌, ◌⊎◌, inl, inr, Bool, true, false, List, [], ◌∷◌, ◌++◌, map, Option, Some, None, refl, sym, ◌∙◌, ap, subst, arith, true≢false}
+use Rattle.vote_state.specs.declared.ring.RingState.{RingState}
+use Rattle.step_lines.proofs.Words.{proposes_stays}
+use Rattle.step_lines.proofs.Onward.{nothing_more, Onward-trans, Onward-refl, put_rings, onward_prints, all_onward}
+use Rattle.step_lines.specs.Dids.{AllAgree, AllTold, DidTold, Onward, Stays, Goes}
+use Rattle.std.proofs.Common.{◌≡◌, ℕ, zero, suc, ◌+◌, ◌^◌, ◌<◌, ◌≤◌, ◌⊎◌, inl, inr, Bool, true, false, List, [], ◌∷◌, ◌++◌, map, Option, Some, None, refl, sym, ◌∙◌, ap, subst, arith, true≢false, one-add}
 use Rattle.std.specs.Prelude.{◌==◌, nat_eq, max, if◌then◌else◌}
 use Rattle.std.specs.List.{AllByRecursion}
 use Rattle.std.proofs.lemmas.Bool.{cases_lt}
@@ -25,20 +29,11 @@ use Rattle.protocol.specs.Node.{Acting, View, RingPart, Service, Stage, Recoveri
 use Rattle.protocol.specs.Learning.{with_did, Queued, queued, proposes_then, by_news, learns_one, then_learns, learns_up_to, does}
 use Rattle.protocol.specs.Merging.{value_at_place, place_of, takes_place, goes_on, merges_stage, merges_service, merges_up_to, merges}
 use Rattle.faithful.specs.Scanners.{past, book}
-use Rattle.recovery_lines.specs.Ties.{IsFit, PartLines, CurrentLines, IsOf, DidLines, ActLines, AfterLines}
+use Rattle.recovery_lines.specs.Ties.{IsCovered, IsFit, PartLines, CurrentLines, IsOf, ActLines, AfterLines, PartTold}
 use Rattle.faithful.proofs.Growing.{past_more}
-use Rattle.step_lines.proofs.Composing.{part_put, did_composed, learned_composed}
-use Rattle.step_lines.proofs.Rounds.{Stays, proposes_stays, did_stays}
+use Rattle.step_lines.proofs.Composing.{part_put, did_composed, learned_composed, did_onward, told_put}
 
 -- ---- each learn line agrees with the book before it
-
-abbrev pub Agrees : List Line → Line → Type 0
-Agrees before (Learn node ring lo hi value) = (inst : ℕ) (known : Value) → lo ≤ inst → inst < hi → book before ring inst ≡ Some known → known ≡ value
-Agrees before other = Unit {0}
-
-abbrev pub AllAgree : List Line → Type 0
-AllAgree [] = Unit {0}
-AllAgree (l ∷ before) = Agrees before l × AllAgree before
 
 agree_before : (new lines : List Line) → AllAgree (past lines new) → AllAgree lines
 agree_before [] lines all = all
@@ -301,13 +296,16 @@ module _ (c : Config) (ring : Ring) (before : List Line) where
         loop_lines (2 ^ 44) (queued ring [] did a) (past lines did.lines) (did_composed c before lines a ties ring did d ordered booked) ((did_onward c before ring did a (λ t. d)).told told) all
 
 -- a rule at a part of the node
-module _ (c : Config) (before : List Line) (p : RingPart) (a : Acting) (e : part_at a.view p.ring.id ≡ Some p) (did : Did) (s : Stays c before p.ring.id (nothing_done p.part) did) where
-  pub rule_onward : Onward c before a (does c p.ring did a)
-  rule_onward = does_onward c p.ring before did a (λ t. s.told (told_found c before p.ring.id a.view.parts p t.parts e))
-
-  pub rule_lines : IsFit c → (lines : List Line) → ActLines c before lines a → AllTold c before a → AllAgree (past before (does c p.ring did a).lines) → AfterLines c before (does c p.ring did a)
-  rule_lines fit lines ties told all =
-      let f : PartFound lines p.ring p.part = part_found lines p.ring a.view.parts p ties.done.parts e in
-      does_lines c p.ring before fit did a lines ties told (s.told (told_found c before p.ring.id a.view.parts p told.parts e))
-      (subst (λ (l : Learner). IsIncreasingFrom 0 l.held) (sym s.learner) f.ordered)
-      (λ inst value h. f.booked inst value (subst (λ (l : Learner). value_in l inst ≡ Some value) s.learner h)) all
+module _ (c : Config) (before : List Line) (p : RingPart) (a : Acting) (e : part_at a.view p.ring.id ≡ Some p) (did : Did)
+    (s : DidTold c before p.ring.id (nothing_done p.part) → Stays c before p.ring.id (nothing_done p.part) did) where
+  pub rule_goes : IsFit c → Goes c before a (does c p.ring did a)
+  rule_goes fit = record {
+    onward = does_onward c p.ring before did a (λ t. let d : DidTold c before p.ring.id (nothing_done p.part) = told_found c before p.ring.id a.view.parts p t.parts e in (s d).told d);
+    right = λ lines ties told all.
+        let d : DidTold c before p.ring.id (nothing_done p.part) = told_found c before p.ring.id a.view.parts p told.parts e in
+        let f : PartFound lines p.ring p.part = part_found lines p.ring a.view.parts p ties.done.parts e in
+        let same : did.part.learner ≡ p.part.learner = (s d).learner in
+        does_lines c p.ring before fit did a lines ties told ((s d).told d)
+        (subst (λ (l : Learner). IsIncreasingFrom 0 l.held) (sym same) f.ordered)
+        (λ inst value h. f.booked inst value (subst (λ (l : Learner). value_in l inst ≡ Some value) same h)) all;
+  }

@@ -1,12 +1,11 @@
 -- A step goes on, whatever is printed: its lines only grow, the node and its rings stay, and what was told is told.
 use Rattle.std.proofs.Common.{◌≡◌, ℕ, zero, suc, ◌+◌, Bool, true, false, List, [], ◌∷◌, ◌++◌, Option, Some, None, refl, sym, ◌∙◌, ap, subst}
-use Rattle.std.specs.Prelude.{map, if◌then◌else◌, ◌^◌}
+use Rattle.std.specs.Prelude.{map, ◌==◌, if◌then◌else◌, ◌^◌}
 use Rattle.std.specs.List.{AllByRecursion}
 use Rattle.mrp_types.specs.declared.id.RingId.{RingId}
 use Rattle.mrp_types.specs.declared.value.Value.{Value}
 use Rattle.mrp_types.specs.declared.value.Value.TheVariants.{Skip, Batch}
 use Rattle.mrp_config.specs.Config.{Config}
-use Rattle.command_codec.specs.Batches.{entries_of_batch}
 use Rattle.frames.specs.declared.sent.Sent.{Sent}
 use Rattle.vote_state.specs.State.{State, taken}
 use Rattle.plain_model.specs.Replicas.{applies}
@@ -32,11 +31,11 @@ lowered_rings tuple (p ∷ parts) = ap (λ (rs : List Ring). p.ring ∷ rs) (low
 
 pub put_rings : (ring : RingId) (part : Part) (parts : List RingPart) → rings_in (with_part_in ring part parts) ≡ rings_in parts
 put_rings ring part [] = refl
-put_rings ring part (p ∷ parts) = go (p.ring.id.0 == ring.0)
+put_rings ring part (p ∷ parts) = go (p.ring.id.0 == ring.0) (put_rings ring part parts)
   where
-    go : (b : Bool) → rings_in (if b then record p { part = part } ∷ parts else p ∷ with_part_in ring part parts) ≡ rings_in (p ∷ parts)
-    go true = refl
-    go false = ap (λ (rs : List Ring). p.ring ∷ rs) (put_rings ring part parts)
+    go : (b : Bool) → rings_in (with_part_in ring part parts) ≡ rings_in parts → rings_in (if b then record p { part = part } ∷ parts else p ∷ with_part_in ring part parts) ≡ rings_in (p ∷ parts)
+    go true e = refl
+    go false e = ap (λ (rs : List Ring). p.ring ∷ rs) e
 
 module _ (c : Config) (lines : List Line) where
   lowered_told : (tuple : List (RingId × ℕ)) (parts : List RingPart) → AllByRecursion (PartTold c lines) parts → AllByRecursion (PartTold c lines) (map (with_lowered tuple) parts)

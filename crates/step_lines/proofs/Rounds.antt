@@ -1,4 +1,6 @@
 -- A round of trimming that ends: what it makes a trim line was told by each subscribed partition's trim quorum.
+use Rattle.protocol.specs.Ballots.{role_leads}
+use Rattle.step_lines.specs.Dids.{Stays}
 use Rattle.std.proofs.Common.{◌≡◌, ℕ, zero, suc, ◌+◌, ◌<◌, ◌≤◌, ◌⊎◌, inl, inr, Bool, true, false, List, [], ◌∷◌, ◌++◌, Option, Some, None, refl, sym, ◌∙◌, ap, subst, arith, true≢false, le_refl, le_trans}
 use Rattle.std.specs.Prelude.{◌==◌, nat_eq, nat_lt, nat_le, ◌&&◌, ◌||◌, not, if◌then◌else◌, min, count_by, length, ◌-◌, count_ones}
 use Rattle.std.specs.List.{AllByRecursion, flat_map}
@@ -27,10 +29,10 @@ use Rattle.protocol.specs.Doing.{nothing_done, with_part, with_frames, with_line
 use Rattle.protocol.specs.Acceptor.{votes_for, trims_to, goes_on, decides, first_decide}
 use Rattle.protocol.specs.Learner.{without_finished, decided_of}
 use Rattle.protocol.specs.Proposing.{Choice, Rests, Offers, choice, offers, own_mask, vote_of, after_offer, Turn, Stops, Proposes, turn_by, turn_with, turn_in, turn_of, advanced, proposing, proposes_after}
-use Rattle.protocol.specs.Trimming.{has_answered, answered_of, have_quorums, least_of, above, least_above_last, least_where, is_answered, least, with_answer, in_round, trims_all, trims_above, ends_by, goes_on_round, with_own_answer, next_round, with_asked, asks, answers_in, answers}
+use Rattle.protocol.specs.Trimming.{has_answered, answered_of, have_quorums, least_of, above, least_above_last, least_where, is_answered, least, with_answer, in_round, trims_all, trims_above, ends_by, goes_on_round, with_own_answer, next_round, with_asked, asks, answers_in, answers, asks_round, with_current}
 use Rattle.faithful.specs.Scanners.{told, entry_of, some_reaches}
 use Rattle.faithful.specs.Rules.{HaveTold, AllHaveTold}
-use Rattle.recovery_lines.specs.Ties.{IsSafe, IsSaid, BodySaid, AreDifferent, RoundLines, CurrentLines, IsPlain, IsRingFrame, DidLines}
+use Rattle.recovery_lines.specs.Ties.{IsSafe, IsSaid, BodySaid, RoundLines, CurrentLines}
 use Rattle.faithful.proofs.Quorum.{appended, different_count, different_more, some_reaches_is, is_some_reaches}
 use Rattle.recovery_lines.proofs.Hearing.{by_test}
 use Rattle.step_lines.proofs.Words.{ring_sends_each, Stays-refl, Stays-trans, stays_frames, stays_line, stays_rounds, stays_trims, proposes_stays}

@@ -1,5 +1,9 @@
 -- The words that a rule of a ring is made of: each leaves the learner, and what was told.
-use Rattle.std.proofs.Common.{◌≡◌, ℕ, zero, suc, ◌+◌, ◌<◌, ◌≤◌, ◌⊎◌, inl, inr, Bool, true, false, List, [], ◌∷◌, ◌++◌, Option, Some, None, refl, sym, ◌∙◌, ap, subst, arith, true≢false, le_refl, le_trans}
+use Rattle.plain_model.proofs.TupleAt.{by_number}
+use Rattle.vote_state.specs.declared.ring.RingState.{RingState}
+use Rattle.recovery_lines.proofs.Printing.{said_sends}
+use Rattle.step_lines.specs.Dids.{Stays, IsPlain, DidTold}
+use Rattle.std.proofs.Common.{◌≡◌, ℕ, zero, suc, ◌+◌, ◌<◌, ◌≤◌, ◌⊎◌, inl, inr, Bool, true, false, List, [], ◌∷◌, ◌++◌, Option, Some, None, refl, sym, ◌∙◌, ap, subst, arith, true≢false, le_refl, le_trans, slice_index_or, slice_set}
 use Rattle.std.specs.Prelude.{◌==◌, nat_eq, nat_lt, nat_le, ◌&&◌, ◌||◌, not, if◌then◌else◌, min, count_by, length, ◌-◌, count_ones}
 use Rattle.std.specs.List.{AllByRecursion, flat_map}
 use Rattle.std.proofs.lemmas.Bool.Decides.{nat_tests}
@@ -14,23 +18,23 @@ use Rattle.quorums.specs.Groups.{Has}
 use Rattle.vote_state.specs.Ranges.{are_held}
 use Rattle.vote_state.specs.declared.change.Change.TheVariants as changes
 use Rattle.vote_state.specs.declared.change.Change.{Change}
-use Rattle.vote_state.specs.State.{State, taken, changed, with_vote, with_trim}
+use Rattle.vote_state.specs.State.{State, ring_at, taken, changed, with_vote, with_trim, with_ring, with_promise, no_votes}
 use Rattle.ring_link.specs.Silence.{Link}
 use Rattle.frames.specs.declared.body.Body.{Body}
 use Rattle.frames.specs.declared.body.Body.TheVariants.{Accept, Decide, AskSafe, TrimTo}
 use Rattle.frames.specs.declared.sent.Sent.{Sent}
 use Rattle.plain_model.proofs.TupleOrder.{split_and}
 use Rattle.protocol.specs.Lines.{Line, Trim}
-use Rattle.protocol.specs.Parts.{Ring, Round, Rounds, Part, Role, Idle, Active, Campaign, Did}
+use Rattle.protocol.specs.Parts.{Ring, Round, Rounds, Part, Role, Idle, Active, Campaign, Did, Coordinator}
 use Rattle.protocol.specs.Rings.{sends, sends_to, sends_each, sent_by, is_beyond, subscribers_of, other_acceptors, replicas_of, by_id, is_subscribed, majority_of, next_acceptor, next_member}
-use Rattle.protocol.specs.Doing.{nothing_done, with_part, with_frames, with_line, with_change, with_kept, with_learned, with_rounds}
-use Rattle.protocol.specs.Acceptor.{votes_for, trims_to, goes_on, decides, first_decide}
+use Rattle.protocol.specs.Doing.{nothing_done, with_part, with_frames, with_line, with_change, with_kept, with_learned, with_rounds, in_role, with_campaign, with_coordinator}
+use Rattle.protocol.specs.Acceptor.{votes_for, trims_to, goes_on, decides, first_decide, promises, promised_part}
 use Rattle.protocol.specs.Learner.{without_finished, decided_of}
 use Rattle.protocol.specs.Proposing.{Choice, Rests, Offers, choice, offers, own_mask, vote_of, after_offer, Turn, Stops, Proposes, turn_by, turn_with, turn_in, turn_of, advanced, proposing, proposes_after}
 use Rattle.protocol.specs.Trimming.{has_answered, answered_of, have_quorums, least_of, above, least_above_last, least_where, is_answered, least, with_answer, in_round, trims_all, trims_above, ends_by, goes_on_round, with_own_answer, next_round, with_asked, asks, answers_in, answers}
 use Rattle.faithful.specs.Scanners.{told, entry_of, some_reaches}
 use Rattle.faithful.specs.Rules.{HaveTold, AllHaveTold}
-use Rattle.recovery_lines.specs.Ties.{IsSafe, IsSaid, BodySaid, AreDifferent, RoundLines, CurrentLines, IsPlain, IsRingFrame, DidLines}
+use Rattle.recovery_lines.specs.Ties.{IsSafe, IsSaid, BodySaid, RoundLines, CurrentLines, IsCovered, AreCovered}
 use Rattle.faithful.proofs.Quorum.{appended, different_count, different_more, some_reaches_is, is_some_reaches}
 use Rattle.recovery_lines.proofs.Hearing.{by_test}
 

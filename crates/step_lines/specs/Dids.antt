@@ -1,15 +1,33 @@
 -- What a rule of a ring makes, with respect to the lines before the step: it needs nothing of what the step prints.
-use Rattle.std.specs.Prelude.{◌≡◌, ℕ, List, [], ◌∷◌, ◌++◌}
+use Rattle.std.specs.Prelude.{◌≡◌, ℕ, ◌<◌, ◌≤◌, List, [], ◌∷◌, ◌++◌, Option, Some, None}
 use Rattle.std.specs.List.{AllByRecursion}
+use Rattle.mrp_types.specs.declared.id.NodeId.{NodeId}
 use Rattle.mrp_types.specs.declared.id.RingId.{RingId}
+use Rattle.mrp_types.specs.declared.value.Value.{Value}
 use Rattle.mrp_config.specs.Config.{Config}
+use Rattle.mrp_config.specs.declared.tables.PartitionTable.{PartitionTable}
+use Rattle.checkpoint.specs.Checks.{Checkpoint}
 use Rattle.vote_state.specs.State.{State, taken}
 use Rattle.protocol.specs.Lines.{Line, Learn, Trim, BallotLimit, InstanceLimit}
-use Rattle.protocol.specs.Parts.{Did}
+use Rattle.protocol.specs.Parts.{Ring, Did}
 use Rattle.protocol.specs.Rings.{subscribers_of}
-use Rattle.protocol.specs.Node.{Acting}
+use Rattle.protocol.specs.Opening.{partition_of}
+use Rattle.protocol.specs.Node.{Acting, Stepped}
+use Rattle.faithful.specs.Scanners.{past, book}
 use Rattle.faithful.specs.Rules.{AllHaveTold}
-use Rattle.recovery_lines.specs.Ties.{IsSaid, IsCovered, AreCovered, CurrentLines, PartTold, rings_in}
+use Rattle.recovery_lines.specs.Ties.{IsSaid, IsCovered, AreCovered, CurrentLines, PartTold, KeptLines, ActLines, AfterLines, rings_in}
+
+-- ---- each learn line agrees with the book before it
+
+abbrev pub Agrees : List Line → Line → Type 0
+Agrees before (Learn node ring lo hi value) = (inst : ℕ) (known : Value) → lo ≤ inst → inst < hi → book before ring inst ≡ Some known → known ≡ value
+Agrees before other = Unit {0}
+
+abbrev pub AllAgree : List Line → Type 0
+AllAgree [] = Unit {0}
+AllAgree (l ∷ before) = Agrees before l × AllAgree before
+
+-- ---- rules
 
 -- a line that a rule of a ring may print: a trim that was told, a limit, or what is learned
 abbrev pub IsPlain : Config → List Line → Line → Type 0
@@ -48,3 +66,23 @@ pub record Onward (c : Config) (lines : List Line) (a b : Acting) : Type 0 where
   pub journal : b.view.journal ≡ a.view.journal
   pub checks : b.view.checks ≡ a.view.checks
   pub told : AllTold c lines a → AllTold c lines b
+
+-- A step goes on, and its lines are right where each of its learn lines agrees with the book before it.
+pub record Goes (c : Config) (before : List Line) (a b : Acting) : Type 0 where
+  pub onward : Onward c before a b
+  pub right : (lines : List Line) → ActLines c before lines a → AllTold c before a → AllAgree (past before b.lines) → AfterLines c before b
+
+-- ---- what a step leaves, whether its work is done or stopped
+
+-- the state of a disk, where the node is a replica
+abbrev pub KeptFor : Config → List Line → NodeId → ℕ → Option Checkpoint → Option PartitionTable → Type 0
+KeptFor c lines x epoch newest None = Unit {0}
+KeptFor c lines x epoch newest (Some p) = KeptLines c lines x epoch p newest
+
+-- with respect to the lines before the step
+pub record LeftTold (c : Config) (lines : List Line) (x : NodeId) (rings : List Ring) (did : Stepped) : Type 0 where
+  pub id : did.view.id ≡ x
+  pub rings_stay : rings_in did.view.parts ≡ rings
+  pub parts : AllByRecursion (PartTold c lines) did.view.parts
+  pub covered : AreCovered c lines did.view.journal.state
+  pub kept : KeptFor c lines x did.view.journal.state.epoch did.view.checks.newest (partition_of c.partitions x)

@@ -1,0 +1,4 @@
+pub mod Starting
+pub mod Worlds
+pub mod Clients
+pub mod Runs
