@@ -1,11 +1,6 @@
 -- What a client prints is of no node's life, and what it sends says nothing of tuples.
-use Rattle.protocol.specs.Doing.{with_part}
-use Rattle.protocol.specs.Tick.{ticks}
 use Rattle.command_codec.specs.Grammar.{reply_of}
-use Rattle.range_map.proofs.CutLemmas.{none}
-use Rattle.line_runs.specs.Invariant.{node}
 use Rattle.mrp_config.specs.Routing.{concerned_of, is_concerned, route_of}
-use Rattle.plain_model.specs.Rows.{client, ring}
 use Rattle.command_codec.specs.declared.reply.Reply.{Reply}
 use Rattle.mrp_config.specs.declared.routing.NoGroup.{NoGroup}
 use Rattle.command_codec.specs.declared.command.Command.{Command}
@@ -22,7 +17,7 @@ use Rattle.frames.specs.declared.body.Body.{Body}
 use Rattle.frames.specs.declared.body.Body.TheVariants as bodies
 use Rattle.frames.specs.declared.sent.Sent.{Sent}
 use Rattle.protocol.specs.Lines.{Line}
-use Rattle.protocol.specs.Client.{Asked, ClientView, ClientDid, idles, submit_to, submits, sends_it, asks_on, asks_beside, asks, ticked, ticks_for, client_ticks, answers, gathered, replied_with, replied_by, replied_for, replied, client_takes, fits, has_part}
+use Rattle.protocol.specs.Client.{with_part, have_all, asked_first, Asked, ClientView, ClientDid, idles, submit_to, submits, sends_it, asks_on, asks_beside, asks, ticked, ticks_for, client_ticks, answers, gathered, replied_with, replied_by, replied_for, replied, client_takes, fits, has_part}
 use Rattle.recovery_lines.specs.Ties.{IsSaid}
 use Rattle.recovery_lines.proofs.Merging.{IsStill}
 
@@ -51,7 +46,8 @@ module _ (c : Config) where
     where
       by_route : (r : Result RingId NoGroup) → IsQuiet c (asks_on c v command r)
       by_route (Err none) = quiet_idles v
-      by_route (Ok ring) = quiet_if (nat_lt v.next (2 ^ 63)) _ (idles v) (quiet_sends _ _) (quiet_idles v)
+      by_route (Ok ring) = quiet_if (nat_lt v.next (2 ^ 63)) (sends_it c (record v { next = v.next + 1 }) (asked_first v.next command ring)) (idles v)
+          (quiet_sends (record v { next = v.next + 1 }) (asked_first v.next command ring)) (quiet_idles v)
 
       by_asked : (o : Option Asked) → IsQuiet c (asks_beside c v command o)
       by_asked (Some a) = record { still = ((λ x. refl, λ before. tt), tt); said = λ ls. tt }
@@ -63,7 +59,8 @@ module _ (c : Config) where
     where
       by_asked : (o : Option Asked) → IsQuiet c (ticks_for c v o)
       by_asked None = quiet_idles v
-      by_asked (Some a) = quiet_if ((a.ticks + 1) % c.resend == 0) _ _ (quiet_sends v _) (quiet_idles _)
+      by_asked (Some a) = quiet_if ((a.ticks + 1) % c.resend == 0) (sends_it c v (record a { ticks = a.ticks + 1; tries = a.tries + 1 })) (idles (record v { asked = Some (record a { ticks = a.ticks + 1 }) }))
+          (quiet_sends v (record a { ticks = a.ticks + 1; tries = a.tries + 1 })) (quiet_idles (record v { asked = Some (record a { ticks = a.ticks + 1 }) }))
 
   quiet_replied : (v : ClientView) (seq : ℕ) (partition : PartitionId) (reply : List ℕ) → IsQuiet c (replied c v seq partition reply)
   unfolding replied
@@ -75,15 +72,16 @@ module _ (c : Config) where
 
       by_reply : (a : Asked) (p : PartitionTable) (r : Result Reply CodecFault) → IsQuiet c (replied_with c v a p r)
       by_reply a p (Err fault) = quiet_idles v
-      by_reply a p (Ok reply) = quiet_if (fits p a.command reply) _ (idles v) (by_all (record a { parts = with_part p.id reply a.parts }) _) (quiet_idles v)
+      by_reply a p (Ok reply) = quiet_if (fits p a.command reply) (gathered c v (record a { parts = with_part p.id reply a.parts })) (idles v)
+          (by_all (record a { parts = with_part p.id reply a.parts }) (have_all (concerned_of a.command c.partitions) (with_part p.id reply a.parts))) (quiet_idles v)
 
       by_partition : (a : Asked) (o : Option PartitionTable) → IsQuiet c (replied_by c v a o reply)
       by_partition a None = quiet_idles v
-      by_partition a (Some p) = quiet_if (is_concerned a.command p && not (has_part a.parts p.id)) _ (idles v) (by_reply a p (reply_of reply)) (quiet_idles v)
+      by_partition a (Some p) = quiet_if (is_concerned a.command p && not (has_part a.parts p.id)) (replied_with c v a p (reply_of reply)) (idles v) (by_reply a p (reply_of reply)) (quiet_idles v)
 
       by_asked : (o : Option Asked) → IsQuiet c (replied_for c v seq partition reply o)
       by_asked None = quiet_idles v
-      by_asked (Some a) = quiet_if (a.seq == seq) _ (idles v) (by_partition a (partition_at c.partitions partition.0)) (quiet_idles v)
+      by_asked (Some a) = quiet_if (a.seq == seq) (replied_by c v a (partition_at c.partitions partition.0) reply) (idles v) (by_partition a (partition_at c.partitions partition.0)) (quiet_idles v)
 
   pub quiet_takes : (v : ClientView) (body : Body) → IsQuiet c (client_takes c v body)
   unfolding client_takes

@@ -2,3 +2,5 @@ pub mod Starting
 pub mod Worlds
 pub mod Clients
 pub mod Runs
+pub mod Fitting
+pub mod Laws

@@ -1,9 +1,4 @@
 -- Every run keeps the invariant, where each of its learn lines agrees with the book before it.
-use Rattle.checkpoint.specs.Rows.{state}
-use Rattle.command_codec.specs.Reader.{shown}
-use Rattle.protocol.specs.Rings.{sent}
-use Rattle.plain_model.specs.Rows.{ring}
-use Rattle.mrp_config.specs.Tables.{number}
 use Rattle.recovery_lines.proofs.Printing.{differ}
 use Rattle.mrp_types.specs.declared.id.ClientId.{ClientId}
 use Rattle.std.proofs.Common.{◌≡◌, ℕ, ◌+◌, ◌⊎◌, inl, inr, Bool, true, false, List, [], ◌∷◌, ◌++◌, Option, Some, None, refl, sym, ◌∙◌, ap, subst, arith}
@@ -16,7 +11,7 @@ use Rattle.mrp_config.specs.Config.{Config}
 use Rattle.mrp_config.specs.declared.tables.PartitionTable.{PartitionTable}
 use Rattle.frames.specs.declared.frame.Frame.{Frame}
 use Rattle.frames.specs.declared.sent.Sent.{Sent}
-use Rattle.checkpoint.specs.Checks.{Checkpoint, Checks, placed}
+use Rattle.checkpoint.specs.Checks.{Checkpoint, Checks}
 use Rattle.vote_state.specs.State.{State, no_votes, trim_at}
 use Rattle.vote_state.specs.declared.ring.RingState.{RingState}
 use Rattle.vote_journal.specs.Journal.{Journal}
@@ -30,7 +25,7 @@ use Rattle.bare_world.specs.Worlds.{Possible, Host, Up, Down, World, Happening, 
 use Rattle.bare_world.specs.Runs.{WasSent, MayCome, MayOpen, MayLeave, MayOpenAt, MayLeaveAt, MayHappen, run, MayRun}
 use Rattle.faithful.specs.Scanners.{past}
 use Rattle.faithful.proofs.Growing.{past_more}
-use Rattle.faithful.proofs.Quorum.{all_has, replica, there}
+use Rattle.faithful.proofs.Quorum.{all_has}
 use Rattle.recovery_lines.specs.Ties.{IsFit, AreCovered, IsCovered, PartySaid, IsSaid, ViewLines, StepLines, KeptLines, IsPlaced, ReplicaLines, rings_in}
 use Rattle.recovery_lines.proofs.Saving.{kept_next}
 use Rattle.recovery_lines.proofs.Merging.{IsStill}
@@ -42,7 +37,7 @@ use Rattle.step_lines.proofs.Whole.{EventSaid, step_left, step_right}
 use Rattle.step_lines.proofs.Opening.{placed_fresh, opened_left, opened_lines}
 use Rattle.line_runs.specs.Invariant.{node, latest_first, PossibleLines, UpLines, HostLines, TiedTo, WorldLines}
 use Rattle.line_runs.proofs.Worlds.{covered_past, stepped_world, down_world, still_world}
-use Rattle.line_runs.proofs.Clients.{IsQuiet, quiet_asks, quiet_ticks, quiet_takes, said, still}
+use Rattle.line_runs.proofs.Clients.{IsQuiet, quiet_asks, quiet_ticks, quiet_takes}
 
 -- ---- lines only grow
 

@@ -1,7 +1,4 @@
 -- The world before anything was printed: each node is down, and its disk stands for nothing.
-use Rattle.checkpoint.specs.Rows.{state}
-use Rattle.faithful.proofs.Quorum.{reaches, there}
-use Rattle.disk_model.specs.Calls.{kept}
 use Rattle.plain_model.proofs.TupleOrder.{first_is_front, front_is_valid}
 use Rattle.std.proofs.Common.{◌≡◌, ℕ, zero, suc, ◌<◌, ◌⊎◌, inl, inr, List, [], ◌∷◌, Option, Some, None, refl, arith, true}
 use Rattle.std.specs.Prelude.{replicate, slice_index_or}

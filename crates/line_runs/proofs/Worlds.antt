@@ -1,8 +1,4 @@
 -- A step of one node, well or stopped, and the other nodes.
-use Rattle.checkpoint.specs.Rows.{state}
-use Rattle.line_runs.proofs.Clients.{said, still}
-use Rattle.disk_model.specs.Calls.{kept}
-use Rattle.command_codec.proofs.Loops.{before}
 use Rattle.protocol.specs.Parts.{Ring}
 use Rattle.faithful.specs.Rules.{AreFaithful}
 use Rattle.std.proofs.Common.{◌≡◌, ℕ, ◌+◌, ◌⊎◌, inl, inr, Bool, true, false, List, [], ◌∷◌, ◌++◌, Option, Some, None, refl, sym, ◌∙◌, ap, subst, arith, true≢false, suc}
@@ -14,7 +10,7 @@ use Rattle.mrp_types.specs.declared.id.RingId.{RingId}
 use Rattle.mrp_config.specs.Config.{Config}
 use Rattle.mrp_config.specs.declared.tables.PartitionTable.{PartitionTable}
 use Rattle.frames.specs.declared.sent.Sent.{Sent}
-use Rattle.checkpoint.specs.Checks.{Checkpoint, placed}
+use Rattle.checkpoint.specs.Checks.{Checkpoint}
 use Rattle.vote_state.specs.State.{trim_at, State}
 use Rattle.protocol.specs.Lines.{Line, Cause}
 use Rattle.protocol.specs.Lines as line

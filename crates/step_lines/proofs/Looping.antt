@@ -35,7 +35,7 @@ use Rattle.step_lines.proofs.Composing.{part_put, did_composed, learned_composed
 
 -- ---- each learn line agrees with the book before it
 
-agree_before : (new lines : List Line) → AllAgree (past lines new) → AllAgree lines
+pub agree_before : (new lines : List Line) → AllAgree (past lines new) → AllAgree lines
 agree_before [] lines all = all
 agree_before (l ∷ new) lines all = (agree_before new (l ∷ lines) all).1
 
