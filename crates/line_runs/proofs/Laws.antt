@@ -85,7 +85,7 @@ one_agrees [] one = tt
 one_agrees (l ∷ lines) one = (by_line l one, one_agrees lines (λ m n ring lo hi lo' hi' inst v w h k a b d e. one m n ring lo hi lo' hi' inst v w (inr h) (inr k) a b d e))
   where
     by_line : (k : Line) → HaveOneValue (k ∷ lines) → Agrees lines k
-    by_line (Learn m ring lo hi value) all inst known from to e =
+    by_line (Learn m ring lo hi value) all = λ inst known from to e.
         let r = book_line lines ring inst known e in
         all r.by_node m ring r.lo r.hi lo hi inst known value (inr r.there) (inl refl) r.from r.to from to
     by_line other all = tt
