@@ -3,3 +3,4 @@ pub mod Ordering
 pub mod Quorum
 pub mod Between
 pub mod Moving
+pub mod OneMore

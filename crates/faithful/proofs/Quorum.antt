@@ -13,7 +13,7 @@ use Rattle.protocol.specs.Opening.{partition_of}
 use Rattle.protocol.specs.Rings.{subscribers_of}
 use Rattle.protocol.specs.Trimming.{has_answered}
 use Rattle.faithful.specs.Scanners.{entry_of, Reaches, some_reaches}
-use Rattle.faithful.specs.Answers.{AreDifferent}
+use Rattle.faithful.specs.Answers.{AreDifferent, Both}
 
 -- ---- lists
 
@@ -32,13 +32,6 @@ mapped P Q f (x ∷ xs) all = (f x all.0, mapped P Q f xs all.1)
 
 pub count_cons : {T : Type 0} (f : T → Bool) (x : T) (xs : List T) → count_by f (x ∷ xs) ≡ cond (f x) 1 0 + count_by f xs
 count_cons f x xs = sum_by-cons (λ y. cond (f y) 1 0) x xs
-
--- one node passes both tests
-pub record Both (f g : NodeId → Bool) (nodes : List NodeId) : Type 0 where
-  pub node : NodeId
-  pub there : Has nodes node
-  pub in_first : f node ≡ true
-  pub in_second : g node ≡ true
 
 pub share : (f g : NodeId → Bool) (nodes : List NodeId) → length nodes < count_by f nodes + count_by g nodes → Both f g nodes
 share f g [] less = absurd (omega arith)

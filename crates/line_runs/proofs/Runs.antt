@@ -29,11 +29,11 @@ use Rattle.faithful.proofs.Quorum.{all_has}
 use Rattle.recovery_lines.specs.Ties.{IsFit, AreCovered, IsCovered, PartySaid, IsSaid, ViewLines, StepLines, KeptLines, IsPlaced, ReplicaLines, rings_in}
 use Rattle.recovery_lines.proofs.Saving.{kept_next}
 use Rattle.recovery_lines.proofs.Merging.{IsStill}
-use Rattle.step_lines.specs.Dids.{AllAgree, KeptFor, LeftTold}
+use Rattle.step_lines.specs.Dids.{AllAgree, KeptFor, LeftTold, EventSaid}
 use Rattle.step_lines.proofs.Onward.{nothing_more, lines_joined}
 use Rattle.step_lines.proofs.Looping.{agree_before}
 use Rattle.step_lines.proofs.Ending.{kept_for}
-use Rattle.step_lines.proofs.Whole.{EventSaid, step_left, step_right}
+use Rattle.step_lines.proofs.Whole.{step_left, step_right}
 use Rattle.step_lines.proofs.Opening.{placed_fresh, opened_left, opened_lines}
 use Rattle.line_runs.specs.Invariant.{node, latest_first, PossibleLines, UpLines, HostLines, TiedTo, WorldLines}
 use Rattle.line_runs.proofs.Worlds.{covered_past, stepped_world, down_world, still_world}

@@ -92,10 +92,13 @@ pub fn trims_are_covered()
 {}
 
 /// The safe rule Save, but for the bytes. In each state that a replica's disk may stand for the newest tuple is a valid one, all
-/// below it is in the book, and it reaches every tuple that the node told.
+/// below it is in the book, and it reaches every tuple that the node told. Below each tuple that some line or frame tells, too,
+/// every place is in the book.
 pub fn checkpoints_are_kept()
-    ensures { (c : Config) (hs : List Happening) → IsRun c hs → (n : ℕ) (s : Possible) (p : PartitionTable) → IsPossible (host_of c hs n) s → partition_of c.partitions (node n) ≡ Some p
+    ensures disks { (c : Config) (hs : List Happening) → IsRun c hs → (n : ℕ) (s : Possible) (p : PartitionTable) → IsPossible (host_of c hs n) s → partition_of c.partitions (node n) ≡ Some p
         → KeepsTold c (latest_first (lines_of c hs)) n p s }
+    ensures told { (c : Config) (hs : List Happening) → IsRun c hs → (x : NodeId) (p : PartitionTable) (k : List (RingId × ℕ)) → partition_of c.partitions x ≡ Some p
+        → is_tuple_of (round_sizes c) p.rings k ≡ true → Has (told x.0 (latest_first (lines_of c hs))) (instances k) → AllKnown (latest_first (lines_of c hs)) k }
 {}
 
 /// The safe rule Restore, but for the bytes. An answer that names an attempt was told by its sender, after the attempt began: it

@@ -130,6 +130,16 @@ module _ (c : Config) (fit : IsFit c) (lines : List Line) (view : View) (ties : 
       by_service None s = tt
       by_service (Some service) s = by_stage service service.stage refl s
 
+pub saved_right : (c : Config) (fit : IsFit c) (lines : List Line) (view : View) → ViewLines c lines view → (did : Stepped) → saves_first c view view.service ≡ Some did → (new : List Line) × StepLines c lines new view.id did
+saved_right c fit lines view ties did e = go (saves_first c view view.service) e (saves_lines c fit lines view ties)
+  where
+    same : (u v : Stepped) → Some u ≡ Some v → u ≡ v
+    same u v f = cc
+
+    go : (o : Option Stepped) → o ≡ Some did → SavedOr c fit lines view ties o → (new : List Line) × StepLines c lines new view.id did
+    go None f s = absurd (cc)
+    go (Some saved) f s = subst (λ (q : Stepped). (new : List Line) × StepLines c lines new view.id q) (same saved did f) s
+
 -- ---- down and up again
 
 -- a node goes down: its possible states stay such

@@ -16,10 +16,10 @@ use Rattle.protocol.specs.Rings.{subscribers_of}
 use Rattle.protocol.specs.Trimming.{has_answered}
 use Rattle.faithful.specs.Scanners.{before_attempt, told, entry_of, Reaches, some_reaches, tuples_told}
 use Rattle.faithful.specs.Rules.{IsReached, HaveTold, AllHaveTold, IsFaithfulLine, AreFaithful}
-use Rattle.faithful.specs.Answers.{AreDifferent}
+use Rattle.faithful.specs.Answers.{AreDifferent, Both}
 use Rattle.recovery_lines.specs.Ties.{IsFit, IsAnswer, AnswerLines, AttemptLines}
 use Rattle.faithful.proofs.Growing.{all_more}
-use Rattle.faithful.proofs.Quorum.{all_has, mapped, Both, share, all_count, different_count, AnswerOf, answer_of, all_answered, entry_reaches, some_reaches_is, subscribed}
+use Rattle.faithful.proofs.Quorum.{all_has, mapped, share, all_count, different_count, AnswerOf, answer_of, all_answered, entry_reaches, some_reaches_is, subscribed}
 
 have_told : (before : List Line) (ring : RingId) (inst : ℕ) (ps : List PartitionTable) (p : PartitionTable) → AllHaveTold before ring inst ps → Has ps p → HaveTold before ring inst p
 have_told before ring inst [] p all h = absurd h

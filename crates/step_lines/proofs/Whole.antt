@@ -28,13 +28,7 @@ use Rattle.protocol.specs.Step.{takes_from, takes_body, at_acceptor, step}
 use Rattle.protocol.specs.Tick.{is_due_to_compact, compacts, saves, saves_stage, saves_first, or_compacts, beats, ticks, beats_with, is_due_to_save}
 use Rattle.faithful.specs.Scanners.{past}
 use Rattle.recovery_lines.specs.Ties.{IsFit, IsPlaced, PartySaid, PartTold, ReplicaLines, StageLines, ServiceLines, ReadyLines, ActLines, StepLines, ViewLines, rings_in, AreCovered, OwnLines}
-use Rattle.step_lines.specs.Dids.{AllAgree, AllTold, DidTold, Stays, Onward, Goes, KeptFor, LeftTold}
-
--- what came was said
-abbrev pub EventSaid : Config → List Line → NodeId → Event → Type 0
-EventSaid c lines x Ticks = Unit {0}
-EventSaid c lines x (Takes frame) = PartySaid c lines frame.from (Node x) frame.body
-EventSaid c lines x (Leads ring) = Unit {0}
+use Rattle.step_lines.specs.Dids.{EventSaid, AllAgree, AllTold, DidTold, Stays, Onward, Goes, KeptFor, LeftTold}
 
 module _ (c : Config) (fit : IsFit c) (lines : List Line) (view : View) (ties : ViewLines c lines view) (placed : AllByRecursion (IsPlaced c view.id) (rings_in view.parts))
     (parts : AllByRecursion (PartTold c lines) view.parts) (covered : AreCovered c lines view.journal.state) where

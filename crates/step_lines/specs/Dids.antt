@@ -2,6 +2,7 @@
 use Rattle.std.specs.Prelude.{◌≡◌, ℕ, ◌<◌, ◌≤◌, List, [], ◌∷◌, ◌++◌, Option, Some, None}
 use Rattle.std.specs.List.{AllByRecursion}
 use Rattle.mrp_types.specs.declared.id.NodeId.{NodeId}
+use Rattle.mrp_types.specs.declared.id.Party.TheVariants.{Node}
 use Rattle.mrp_types.specs.declared.id.RingId.{RingId}
 use Rattle.mrp_types.specs.declared.value.Value.{Value}
 use Rattle.mrp_config.specs.Config.{Config}
@@ -12,10 +13,10 @@ use Rattle.protocol.specs.Lines.{Line, Learn, Trim, BallotLimit, InstanceLimit}
 use Rattle.protocol.specs.Parts.{Ring, Did}
 use Rattle.protocol.specs.Rings.{subscribers_of}
 use Rattle.protocol.specs.Opening.{partition_of}
-use Rattle.protocol.specs.Node.{Acting, Stepped}
+use Rattle.protocol.specs.Node.{Acting, Event, Ticks, Takes, Leads, Stepped}
 use Rattle.faithful.specs.Scanners.{past, book}
 use Rattle.faithful.specs.Rules.{AllHaveTold}
-use Rattle.recovery_lines.specs.Ties.{IsSaid, IsCovered, AreCovered, CurrentLines, PartTold, KeptLines, ActLines, AfterLines, rings_in}
+use Rattle.recovery_lines.specs.Ties.{IsSaid, PartySaid, IsCovered, AreCovered, CurrentLines, PartTold, KeptLines, ActLines, AfterLines, rings_in}
 
 -- ---- each learn line agrees with the book before it
 
@@ -86,3 +87,9 @@ pub record LeftTold (c : Config) (lines : List Line) (x : NodeId) (rings : List 
   pub parts : AllByRecursion (PartTold c lines) did.view.parts
   pub covered : AreCovered c lines did.view.journal.state
   pub kept : KeptFor c lines x did.view.journal.state.epoch did.view.checks.newest (partition_of c.partitions x)
+
+-- what came was said
+abbrev pub EventSaid : Config → List Line → NodeId → Event → Type 0
+EventSaid c lines x Ticks = Unit {0}
+EventSaid c lines x (Takes frame) = PartySaid c lines frame.from (Node x) frame.body
+EventSaid c lines x (Leads ring) = Unit {0}
