@@ -138,8 +138,8 @@ tuple_at_next m rings k some tuple next = counts_entries m (place_of (next_place
         down i less = elim (cases_lt i x.1) [
           | inl h ↦ h
           | inr le ↦
-            let p : Place = record { ring = x.0; inst = i } in
-            absurd (none_before_next m k p (not_below_by x k p one refl le) ((count-before m p (place_of (next_place m k)) (some x.0.0)).0 less))
+              let p : Place = record { ring = x.0; inst = i } in
+              absurd (none_before_next m k p (not_below_by x k p one refl le) ((count-before m p (place_of (next_place m k)) (some x.0.0)).0 less))
         ]
 
 -- the next place of a tuple that has a ring

@@ -182,8 +182,11 @@ answer_of P node (answer ∷ answers) all h = elim (or_some (answer.0.0 == node.
 -- each of them did
 pub all_answered : {T : Type 0} (answers : List (NodeId × T)) → AllByRecursion (λ (answer : NodeId × T). has_answered answer.0 answers ≡ true) answers
 all_answered [] = tt
-all_answered {T} (answer ∷ answers) = (rw (same answer.0.0) refl, mapped (λ (other : NodeId × T). has_answered other.0 answers ≡ true)
-    (λ (other : NodeId × T). has_answered other.0 (answer ∷ answers) ≡ true) (λ other h. later (answer.0.0 == other.0.0) (has_answered other.0 answers) h) answers (all_answered answers))
+all_answered {T} (answer ∷ answers) = (
+  rw (same answer.0.0) refl,
+  mapped (λ (other : NodeId × T). has_answered other.0 answers ≡ true)
+      (λ (other : NodeId × T). has_answered other.0 (answer ∷ answers) ≡ true) (λ other h. later (answer.0.0 == other.0.0) (has_answered other.0 answers) h) answers (all_answered answers),
+)
   where
     same : (x : ℕ) → nat_eq x x ≡ true
     same x = grind (arith, nat_tests)

@@ -5,7 +5,7 @@ use Rattle.command_codec.specs.declared.reply.Reply.{Reply}
 use Rattle.mrp_config.specs.declared.routing.NoGroup.{NoGroup}
 use Rattle.command_codec.specs.declared.command.Command.{Command}
 use Rattle.command_codec.specs.declared.fault.CodecFault.{CodecFault}
-use Rattle.std.proofs.Common.{◌≡◌, ℕ, Bool, true, false, List, [], ◌∷◌, Option, Some, None, refl}
+use Rattle.std.proofs.Common.{ℕ, Bool, true, false, List, Option, Some, None, refl}
 use Rattle.std.specs.Prelude.{◌==◌, nat_lt, ◌&&◌, not, if◌then◌else◌, Result, Ok, Err, ◌%◌, ◌+◌, ◌^◌}
 use Rattle.std.specs.List.{AllByRecursion}
 use Rattle.mrp_types.specs.declared.id.NodeId.{NodeId}
@@ -15,9 +15,8 @@ use Rattle.mrp_config.specs.Config.{Config, partition_at}
 use Rattle.mrp_config.specs.declared.tables.PartitionTable.{PartitionTable}
 use Rattle.frames.specs.declared.body.Body.{Body}
 use Rattle.frames.specs.declared.body.Body.TheVariants as bodies
-use Rattle.frames.specs.declared.sent.Sent.{Sent}
 use Rattle.protocol.specs.Lines.{Line}
-use Rattle.protocol.specs.Client.{with_part, have_all, asked_first, Asked, ClientView, ClientDid, idles, submit_to, submits, sends_it, asks_on, asks_beside, asks, ticked, ticks_for, client_ticks, answers, gathered, replied_with, replied_by, replied_for, replied, client_takes, fits, has_part}
+use Rattle.protocol.specs.Client.{with_part, have_all, asked_first, Asked, ClientView, ClientDid, idles, submit_to, sends_it, asks_on, asks_beside, asks, ticks_for, client_ticks, answers, gathered, replied_with, replied_by, replied_for, replied, client_takes, fits, has_part}
 use Rattle.recovery_lines.specs.Ties.{IsSaid}
 use Rattle.recovery_lines.proofs.Merging.{IsStill}
 

@@ -4,8 +4,8 @@ use Rattle.recovery_lines.proofs.More.{}
 use Rattle.range_map.proofs.CutLemmas.{}
 use Rattle.transcript.proofs.LineLaws.{}
 use Rattle.plain_model.proofs.TupleAt.{by_number}
-use Rattle.std.proofs.Common.{◌≡◌, ℕ, ◌<◌, ◌≤◌, ◌⊎◌, inl, inr, Bool, true, false, List, [], ◌∷◌, ◌++◌, Option, Some, None, refl, sym, ◌∙◌, ap, subst, arith, true≢false, le_trans}
-use Rattle.std.specs.Prelude.{◌==◌, nat_eq, nat_lt, nat_le, ◌&&◌, if◌then◌else◌}
+use Rattle.std.proofs.Common.{◌≡◌, ℕ, ◌<◌, ◌≤◌, ◌⊎◌, inl, inr, Bool, true, false, List, [], ◌∷◌, ◌++◌, Option, Some, None, refl, sym, ◌∙◌, ap, subst, arith, le_trans}
+use Rattle.std.specs.Prelude.{◌==◌, nat_lt, nat_le, ◌&&◌, if◌then◌else◌}
 use Rattle.std.specs.List.{AllByRecursion}
 use Rattle.std.proofs.lemmas.Bool.Decides.{nat_tests}
 use Rattle.mrp_types.specs.declared.id.NodeId.{NodeId}
@@ -13,27 +13,26 @@ use Rattle.mrp_types.specs.declared.id.RingId.{RingId}
 use Rattle.mrp_types.specs.declared.id.Party.{Party}
 use Rattle.mrp_types.specs.declared.id.Party.TheVariants.{Node}
 use Rattle.mrp_types.specs.declared.value.Value.{Value}
-use Rattle.mrp_config.specs.Config.{Config, has_ring}
+use Rattle.mrp_config.specs.Config.{Config}
 use Rattle.mrp_config.specs.declared.tables.PartitionTable.{PartitionTable}
 use Rattle.frames.specs.declared.body.Body.{Body}
-use Rattle.frames.specs.declared.body.Body.TheVariants.{Promise, Trimmed, TrimTo, HaveCheckpoint}
+use Rattle.frames.specs.declared.body.Body.TheVariants.{Promise, Trimmed, TrimTo}
 use Rattle.frames.specs.declared.sent.Sent.{Sent}
-use Rattle.plain_model.specs.Tuples.{round_sizes, is_tuple_of, instances}
 use Rattle.plain_model.proofs.TupleOrder.{split_and}
 use Rattle.quorums.specs.Groups.{Has}
-use Rattle.protocol.specs.Lines.{Line, Learn, Deliver, Begin, Chose, Restore, Saved, Trim, Down as WentDown, Up as WentUp}
+use Rattle.protocol.specs.Lines.{Line, Learn, Begin, Chose, Restore, Trim, Down as WentDown, Up as WentUp}
 use Rattle.protocol.specs.Opening.{partition_of}
 use Rattle.protocol.specs.Node.{View, Service, Stage, Ready, Standing}
-use Rattle.bare_world.specs.Worlds.{Possible, Host, Up, Down, World, Happening, nothing, possible_of}
+use Rattle.bare_world.specs.Worlds.{Possible, Host, Up, Down, Happening, nothing}
 use Rattle.bare_world.specs.Runs.{run}
-use Rattle.faithful.specs.Scanners.{past, touches, or_else, chosen, choice_told, before_begin, lines_before, told, book, learned_by, Reaches, entry_of, some_reaches}
-use Rattle.faithful.specs.Rules.{AllKnown, Restores, Chooses, IsReached, IsFaithfulLine, AreFaithful}
-use Rattle.faithful.proofs.Growing.{past_more, last_quiet}
+use Rattle.faithful.specs.Scanners.{past, touches, or_else, chosen, choice_told, before_begin, lines_before, told, book, learned_by, entry_of, some_reaches}
+use Rattle.faithful.specs.Rules.{Restores, IsReached, IsFaithfulLine, AreFaithful}
+use Rattle.faithful.proofs.Growing.{past_more}
 use Rattle.faithful.proofs.Quorum.{all_has, some_reaches_is, entry_reaches}
-use Rattle.recovery_lines.specs.Ties.{IsAnswer, IsCovered, KeptLines, BodySaid, PartySaid, IsSaid, ReplicaLines, ServiceLines, StageLines, ReadyLines, newest_of}
+use Rattle.recovery_lines.specs.Ties.{IsCovered, KeptLines, BodySaid, PartySaid, IsSaid, ReplicaLines, ServiceLines, StageLines, ReadyLines, newest_of}
 use Rattle.step_lines.specs.Dids.{Agrees, AllAgree, KeptFor}
 use Rattle.step_lines.proofs.Ending.{kept_for}
-use Rattle.line_runs.specs.Invariant.{node, latest_first, PossibleLines, UpLines, HostLines, TiedTo, WorldLines}
+use Rattle.line_runs.specs.Invariant.{node, latest_first, PossibleLines, UpLines, HostLines, WorldLines}
 use Rattle.line_runs.specs.Laws.{HaveOneValue, IsRun, lines_of, host_of, IsPossible, trim_told, NodeSent, KeepsTold, StartsPast}
 use Rattle.line_runs.proofs.Starting.{first_world}
 use Rattle.line_runs.proofs.Runs.{run_kept}

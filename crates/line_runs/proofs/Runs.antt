@@ -1,8 +1,8 @@
 -- Every run keeps the invariant, where each of its learn lines agrees with the book before it.
 use Rattle.recovery_lines.proofs.Printing.{differ}
 use Rattle.mrp_types.specs.declared.id.ClientId.{ClientId}
-use Rattle.std.proofs.Common.{◌≡◌, ℕ, ◌+◌, ◌⊎◌, inl, inr, Bool, true, false, List, [], ◌∷◌, ◌++◌, Option, Some, None, refl, sym, ◌∙◌, ap, subst, arith}
-use Rattle.std.specs.Prelude.{◌==◌, if◌then◌else◌, slice_index_or}
+use Rattle.std.proofs.Common.{◌≡◌, ℕ, ◌+◌, ◌⊎◌, inl, inr, Bool, true, false, List, [], ◌∷◌, ◌++◌, Option, Some, None, refl, sym, ◌∙◌, ap, subst}
+use Rattle.std.specs.Prelude.{slice_index_or}
 use Rattle.std.specs.List.{AllByRecursion}
 use Rattle.mrp_types.specs.declared.id.NodeId.{NodeId}
 use Rattle.mrp_types.specs.declared.id.Party.{Party}
@@ -12,7 +12,7 @@ use Rattle.mrp_config.specs.declared.tables.PartitionTable.{PartitionTable}
 use Rattle.frames.specs.declared.frame.Frame.{Frame}
 use Rattle.frames.specs.declared.sent.Sent.{Sent}
 use Rattle.checkpoint.specs.Checks.{Checkpoint, Checks}
-use Rattle.vote_state.specs.State.{State, no_votes, trim_at}
+use Rattle.vote_state.specs.State.{State, no_votes}
 use Rattle.vote_state.specs.declared.ring.RingState.{RingState}
 use Rattle.vote_journal.specs.Journal.{Journal}
 use Rattle.protocol.specs.Lines.{Line, Cause}
@@ -22,7 +22,7 @@ use Rattle.protocol.specs.Opening.{partition_of, parts_of, opened}
 use Rattle.protocol.specs.Node.{View, Event, Ticks, Takes, Leads, Stepped}
 use Rattle.protocol.specs.Step.{step}
 use Rattle.bare_world.specs.Worlds.{Possible, Host, Up, Down, World, Happening, Steps, Breaks, Crashes, Opens, Fails, Asks, ClientTicks, ClientTakes, Shows, Lists, chosen, possible_of, happens, steps_as, breaks_as, crashes_as, opens_as, fails_as, client_does, state_of_host, with_lines}
-use Rattle.bare_world.specs.Runs.{WasSent, MayCome, MayOpen, MayLeave, MayOpenAt, MayLeaveAt, MayHappen, run, MayRun}
+use Rattle.bare_world.specs.Runs.{MayCome, MayOpenAt, MayLeaveAt, MayHappen, run, MayRun}
 use Rattle.faithful.specs.Scanners.{past}
 use Rattle.faithful.proofs.Growing.{past_more}
 use Rattle.faithful.proofs.Quorum.{all_has}
@@ -35,7 +35,7 @@ use Rattle.step_lines.proofs.Looping.{agree_before}
 use Rattle.step_lines.proofs.Ending.{kept_for}
 use Rattle.step_lines.proofs.Whole.{step_left, step_right}
 use Rattle.step_lines.proofs.Opening.{placed_fresh, opened_left, opened_lines}
-use Rattle.line_runs.specs.Invariant.{node, latest_first, PossibleLines, UpLines, HostLines, TiedTo, WorldLines}
+use Rattle.line_runs.specs.Invariant.{node, PossibleLines, UpLines, HostLines, TiedTo, WorldLines}
 use Rattle.line_runs.proofs.Worlds.{covered_past, stepped_world, down_world, still_world}
 use Rattle.line_runs.proofs.Clients.{IsQuiet, quiet_asks, quiet_ticks, quiet_takes}
 
@@ -89,7 +89,6 @@ run_adds c (h ∷ hs) w = adds_both w (happens c h w) (run c hs (happens c h w))
 -- ---- a happening
 
 module _ (c : Config) (fit : IsFit c) (w : World) (ties : WorldLines c w) where
-
   -- what came was said
   event_said : (id : NodeId) (event : Event) → MayCome w id event → EventSaid c (past [] w.lines) id event
   event_said id Ticks may = tt
@@ -115,7 +114,6 @@ module _ (c : Config) (fit : IsFit c) (w : World) (ties : WorldLines c w) where
 
   standing : (view : View) (n : ℕ) → UpLines c (past [] w.lines) n view → PossibleLines c (past [] w.lines) n (possible_of view)
   standing view n u = record { kept = kept_for c (past [] w.lines) (node n) view.journal.state.epoch view.checks.newest view.service u.replica; covered = u.covered }
-
 
   steps_kept : (id : NodeId) (event : Event) (host : Host) → w.hosts id.0 ≡ host → MayCome w id event → AllAgree (past [] (steps_as c id event host w).lines) → WorldLines c (steps_as c id event host w)
   steps_kept id event (Down durable pending) e may all = ties

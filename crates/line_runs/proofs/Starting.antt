@@ -1,6 +1,6 @@
 -- The world before anything was printed: each node is down, and its disk stands for nothing.
 use Rattle.plain_model.proofs.TupleOrder.{first_is_front, front_is_valid}
-use Rattle.std.proofs.Common.{◌≡◌, ℕ, zero, suc, ◌<◌, ◌⊎◌, inl, inr, List, [], ◌∷◌, Option, Some, None, refl, arith, true}
+use Rattle.std.proofs.Common.{◌≡◌, ℕ, zero, suc, inl, inr, List, [], ◌∷◌, Option, Some, None, refl, arith, true}
 use Rattle.std.specs.Prelude.{replicate, slice_index_or}
 use Rattle.mrp_types.specs.declared.id.RingId.{RingId}
 use Rattle.mrp_types.specs.declared.place.Place.{Place}
@@ -8,12 +8,11 @@ use Rattle.mrp_config.specs.Config.{Config}
 use Rattle.mrp_config.specs.declared.tables.PartitionTable.{PartitionTable}
 use Rattle.plain_model.specs.Tuples.{round_sizes, first_tuple, has_rings, IsBelow}
 use Rattle.protocol.specs.Opening.{partition_of}
-use Rattle.vote_state.specs.State.{State, nothing_kept, no_votes, trim_at}
-use Rattle.vote_state.specs.declared.ring.RingState.{RingState}
+use Rattle.vote_state.specs.State.{nothing_kept, no_votes}
 use Rattle.bare_world.specs.Worlds.{nothing}
 use Rattle.faithful.proofs.Growing.{same_number}
 use Rattle.faithful.proofs.Ordering.{is_tuple}
-use Rattle.recovery_lines.specs.Ties.{KeptLines, AreCovered}
+use Rattle.recovery_lines.specs.Ties.{KeptLines}
 use Rattle.step_lines.specs.Dids.{KeptFor}
 use Rattle.line_runs.specs.Invariant.{node, PossibleLines, WorldLines}
 

@@ -1,26 +1,23 @@
 -- A step of one node, well or stopped, and the other nodes.
 use Rattle.protocol.specs.Parts.{Ring}
 use Rattle.faithful.specs.Rules.{AreFaithful}
-use Rattle.std.proofs.Common.{◌≡◌, ℕ, ◌+◌, ◌⊎◌, inl, inr, Bool, true, false, List, [], ◌∷◌, ◌++◌, Option, Some, None, refl, sym, ◌∙◌, ap, subst, arith, true≢false, suc}
-use Rattle.std.specs.Prelude.{◌==◌, nat_eq, if◌then◌else◌}
+use Rattle.std.proofs.Common.{◌≡◌, ℕ, Bool, true, false, List, [], ◌∷◌, ◌++◌, Option, Some, None, refl, sym, ◌∙◌, subst, arith, true≢false, suc}
+use Rattle.std.specs.Prelude.{◌==◌, if◌then◌else◌}
 use Rattle.std.specs.List.{AllByRecursion}
 use Rattle.std.proofs.lemmas.Bool.Decides.{nat_tests}
-use Rattle.mrp_types.specs.declared.id.NodeId.{NodeId}
-use Rattle.mrp_types.specs.declared.id.RingId.{RingId}
 use Rattle.mrp_config.specs.Config.{Config}
 use Rattle.mrp_config.specs.declared.tables.PartitionTable.{PartitionTable}
 use Rattle.frames.specs.declared.sent.Sent.{Sent}
-use Rattle.checkpoint.specs.Checks.{Checkpoint}
 use Rattle.vote_state.specs.State.{trim_at, State}
 use Rattle.protocol.specs.Lines.{Line, Cause}
 use Rattle.protocol.specs.Lines as line
 use Rattle.protocol.specs.Opening.{partition_of}
-use Rattle.protocol.specs.Node.{View, Stepped, RingPart}
-use Rattle.bare_world.specs.Worlds.{Possible, Host, Up, Down, World, with_host}
+use Rattle.protocol.specs.Node.{Stepped, RingPart}
+use Rattle.bare_world.specs.Worlds.{Possible, Host, Up, Down, World}
 use Rattle.faithful.specs.Scanners.{past}
 use Rattle.faithful.proofs.Quorum.{appended, mapped}
-use Rattle.recovery_lines.specs.Ties.{AreCovered, PartTold, PartLines, ReplicaLines, IsOf, IsSaid, StepLines, rings_in, IsPlaced, KnownLines}
-use Rattle.recovery_lines.proofs.More.{IsSaid-more, IsCovered-more, PartLines-more, PartTold-more, KnownLines-more, ReplicaLines-quiet}
+use Rattle.recovery_lines.specs.Ties.{AreCovered, PartTold, PartLines, IsOf, IsSaid, StepLines, IsPlaced, KnownLines}
+use Rattle.recovery_lines.proofs.More.{IsCovered-more, PartLines-more, PartTold-more, KnownLines-more}
 use Rattle.recovery_lines.proofs.Merging.{IsStill, many}
 use Rattle.recovery_lines.proofs.Printing.{differ}
 use Rattle.recovery_lines.proofs.Saving.{kept_down}

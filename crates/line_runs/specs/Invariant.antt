@@ -1,5 +1,5 @@
 -- What every run keeps of a world's lines, frames and hosts. The lines stand with the latest first.
-use Rattle.std.specs.Prelude.{◌≡◌, ℕ, List, [], ◌∷◌, Option, Some, None}
+use Rattle.std.specs.Prelude.{◌≡◌, ℕ, List, []}
 use Rattle.std.specs.List.{AllByRecursion}
 use Rattle.mrp_types.specs.declared.id.NodeId.{NodeId}
 use Rattle.mrp_config.specs.Config.{Config}

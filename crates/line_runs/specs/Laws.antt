@@ -1,6 +1,6 @@
 -- The words in which the laws of every run are said. A run's lines stand in the order in which they were printed; "the lines
 -- before" a line are turned round by `latest_first`, as the definitions of what is read of lines want them.
-use Rattle.std.specs.Prelude.{◌≡◌, ℕ, ◌<◌, ◌≤◌, ◌⊎◌, Bool, true, List, [], ◌∷◌, ◌++◌, Option, Some, None}
+use Rattle.std.specs.Prelude.{◌≡◌, ℕ, ◌<◌, ◌≤◌, ◌⊎◌, true, List, Option, Some, None}
 use Rattle.mrp_types.specs.declared.id.NodeId.{NodeId}
 use Rattle.mrp_types.specs.declared.id.RingId.{RingId}
 use Rattle.mrp_types.specs.declared.id.Party.TheVariants.{Node}
@@ -12,16 +12,15 @@ use Rattle.frames.specs.declared.body.Body.{Body}
 use Rattle.frames.specs.declared.body.Body.TheVariants.{Promise, Trimmed, TrimTo}
 use Rattle.frames.specs.declared.sent.Sent.{Sent}
 use Rattle.quorums.specs.Groups.{Has}
-use Rattle.plain_model.specs.Tuples.{round_sizes, is_tuple_of, instances}
+use Rattle.plain_model.specs.Tuples.{round_sizes, is_tuple_of}
 use Rattle.protocol.specs.Lines.{Line, Learn, Trim}
 use Rattle.protocol.specs.Opening.{partition_of}
 use Rattle.protocol.specs.Recovery.{tuple_of_newest}
-use Rattle.bare_world.specs.Worlds.{Possible, Host, Up, Down, World, Happening, nothing, possible_of}
+use Rattle.bare_world.specs.Worlds.{Possible, Host, Up, Down, Happening, nothing, possible_of}
 use Rattle.bare_world.specs.Runs.{run, MayRun}
-use Rattle.faithful.specs.Scanners.{past, before_begin, told, Reaches, entry_of}
+use Rattle.faithful.specs.Scanners.{before_begin, told, Reaches, entry_of}
 use Rattle.faithful.specs.Rules.{AllKnown}
 use Rattle.recovery_lines.specs.Ties.{newest_of}
-use Rattle.line_runs.specs.Invariant.{node, latest_first}
 
 -- one value of all learn lines of a ring: two of them that cover an instance have the same
 abbrev pub HaveOneValue : List Line → Type 0

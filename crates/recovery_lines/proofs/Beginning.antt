@@ -1,26 +1,23 @@
 -- An attempt begins, and chooses once a quorum has answered.
-use Rattle.std.proofs.Common.{◌≡◌, ℕ, suc, ◌+◌, ◌-◌, ◌^◌, ◌<◌, ◌≤◌, ◌⊎◌, inl, inr, Bool, true, false, List, [], ◌∷◌, ◌++◌, Option, Some, None, refl, sym, ◌∙◌, ap, subst, arith, true≢false, le_trans}
-use Rattle.std.specs.Prelude.{◌==◌, nat_eq, nat_lt, nat_le, ◌&&◌, ◌||◌, not, if◌then◌else◌, length}
+use Rattle.std.proofs.Common.{◌≡◌, ℕ, ◌+◌, ◌-◌, ◌^◌, ◌<◌, ◌≤◌, ◌⊎◌, inl, inr, Bool, true, false, List, [], ◌∷◌, Option, Some, None, refl, sym, ap, subst, arith}
+use Rattle.std.specs.Prelude.{nat_lt, nat_le, if◌then◌else◌, length}
 use Rattle.std.specs.List.{AllByRecursion, flat_map}
 use Rattle.std.proofs.lemmas.Bool.Decides.{nat_tests}
 use Rattle.mrp_types.specs.declared.id.NodeId.{NodeId}
 use Rattle.mrp_types.specs.declared.id.RingId.{RingId}
-use Rattle.mrp_config.specs.Config.{Config, has_node}
-use Rattle.mrp_config.specs.declared.tables.PartitionTable.{PartitionTable}
+use Rattle.mrp_config.specs.Config.{Config}
 use Rattle.quorums.specs.Groups.{Has}
 use Rattle.frames.specs.declared.body.Body.TheVariants.{AskCheckpoint}
 use Rattle.frames.specs.declared.sent.Sent.{Sent}
-use Rattle.checkpoint.specs.Checks.{Checkpoint}
 use Rattle.plain_model.specs.Tuples.{round_sizes, is_tuple_of, instances}
 use Rattle.protocol.specs.Lines.{Line, Begin, AttemptLimit}
-use Rattle.protocol.specs.Opening.{partition_of}
-use Rattle.protocol.specs.Node.{Acting, View, Service, Stage, Recovering, Attempt, Choice, with_stage, prints, sends_all}
+use Rattle.protocol.specs.Node.{Acting, Service, Recovering, Attempt, Choice, with_stage, prints, sends_all}
 use Rattle.protocol.specs.Merging.{merges}
-use Rattle.protocol.specs.Recovery.{epoch_of, own_tuple, tuple_of_newest, others_of, best_of, chooses, chooses_best, chooses_if_quorum, asks_checkpoint, begins_next, begins}
-use Rattle.faithful.specs.Scanners.{Mark, Begun, touches, life, up_epoch, attempting, unchosen, before_begin, before_attempt, lines_before_this, told, begun, or_else, Reaches}
-use Rattle.faithful.specs.Rules.{AllKnown, Begins, IsLater}
-use Rattle.recovery_lines.specs.Ties.{IsFit, IsAnswer, IsSaid, OwnLines, KeptLines, AnswerLines, AttemptLines, ChosenLines, ReplicaLines, DoneLines, ActLines, AfterLines, newest_of}
-use Rattle.faithful.proofs.Growing.{same_number, first_own}
+use Rattle.protocol.specs.Recovery.{epoch_of, own_tuple, others_of, best_of, chooses_best, chooses_if_quorum, asks_checkpoint, begins_next, begins}
+use Rattle.faithful.specs.Scanners.{unchosen, before_attempt, told, begun, Reaches}
+use Rattle.faithful.specs.Rules.{Begins, IsLater}
+use Rattle.recovery_lines.specs.Ties.{IsFit, IsAnswer, IsSaid, OwnLines, AnswerLines, AttemptLines, ChosenLines, DoneLines, ActLines, AfterLines, newest_of}
+use Rattle.faithful.proofs.Growing.{same_number}
 use Rattle.faithful.proofs.Ordering.{Reaches-refl}
 use Rattle.faithful.proofs.Quorum.{mapped, partition_there}
 use Rattle.recovery_lines.proofs.More.{AllKnown-more, ReplicaLines-quiet}
@@ -176,12 +173,15 @@ module _ (c : Config) (fit : IsFit c) (before : List Line) (merged : (a : Acting
         faithful = d.faithful;
         different = (refl, tt);
         heard = inl refl;
-        answered = (record {
-          replica = (partition_there c.partitions a.view.id service.partition o.replica).replica;
-          valid = o.kept.valid;
-          said = said;
-          own = λ e. refl;
-        }, tt);
+        answered = (
+          record {
+            replica = (partition_there c.partitions a.view.id service.partition o.replica).replica;
+            valid = o.kept.valid;
+            said = said;
+            own = λ e. refl;
+          },
+          tt,
+        );
       }
 
       asked : AllByRecursion (IsSaid c (l ∷ lines)) asks

@@ -1,32 +1,31 @@
 -- A choice is made, an own checkpoint is installed, and an attempt begins.
-use Rattle.std.proofs.Common.{◌≡◌, ℕ, suc, ◌+◌, ◌-◌, ◌^◌, ◌<◌, ◌≤◌, ◌⊎◌, inl, inr, Bool, true, false, List, [], ◌∷◌, ◌++◌, Option, Some, None, refl, sym, ◌∙◌, ap, subst, arith, true≢false}
-use Rattle.std.specs.Prelude.{◌==◌, nat_eq, nat_lt, nat_le, ◌&&◌, ◌||◌, not, if◌then◌else◌, length}
-use Rattle.std.specs.List.{AllByRecursion, flat_map}
+use Rattle.std.proofs.Common.{◌≡◌, ℕ, ◌≤◌, inl, inr, Bool, true, false, List, [], ◌∷◌, ◌++◌, Option, Some, None, refl, sym, ◌∙◌, ap, subst, arith}
+use Rattle.std.specs.Prelude.{◌==◌, nat_lt, ◌&&◌, ◌||◌, if◌then◌else◌, length}
+use Rattle.std.specs.List.{AllByRecursion}
 use Rattle.std.proofs.lemmas.Bool.Decides.{nat_tests}
 use Rattle.mrp_types.specs.declared.id.NodeId.{NodeId}
 use Rattle.mrp_types.specs.declared.id.RingId.{RingId}
 use Rattle.mrp_config.specs.Config.{Config, has_node}
 use Rattle.mrp_config.specs.declared.tables.PartitionTable.{PartitionTable}
 use Rattle.quorums.specs.Groups.{Has}
-use Rattle.frames.specs.declared.body.Body.TheVariants.{AskCheckpoint, AskPart}
+use Rattle.frames.specs.declared.body.Body.TheVariants.{AskPart}
 use Rattle.checkpoint.specs.Checks.{Checkpoint, is_same_tuple, is_after}
 use Rattle.plain_model.specs.Replicas.{Replica}
 use Rattle.plain_model.specs.StateBytes.{state_of}
-use Rattle.plain_model.specs.Tuples.{round_sizes, first_tuple, is_tuple_of, instances}
-use Rattle.protocol.specs.Lines.{Line, Begin, Chose, Restore, AttemptLimit}
-use Rattle.protocol.specs.Opening.{partition_of}
-use Rattle.protocol.specs.Node.{Acting, View, Service, Stage, Recovering, Ready, Standing, Attempt, Choice, with_stage, prints, sends_all}
+use Rattle.plain_model.specs.Tuples.{round_sizes, is_tuple_of, instances}
+use Rattle.protocol.specs.Lines.{Line, Begin, Chose, Restore}
+use Rattle.protocol.specs.Node.{Acting, Service, Stage, Recovering, Ready, Attempt, Choice, with_stage, prints, sends_all}
 use Rattle.protocol.specs.Merging.{merges}
-use Rattle.protocol.specs.Recovery.{epoch_of, own_tuple, tuple_of_newest, others_of, lowers, restores, restores_read, installs_own, is_other, is_better, best_of, asks_part, gathers, chooses, chooses_best, chooses_if_quorum, asks_checkpoint, begins_next, begins}
-use Rattle.faithful.specs.Scanners.{Mark, Begun, Restored, touches, life, up_epoch, attempting, unchosen, chosen, before_begin, before_attempt, first_of, all_of, lines_before_this, attempts_told, told, begun, or_else, paired, Reaches, position}
-use Rattle.faithful.specs.Rules.{AllKnown, BySkips, Chooses, Restores, Begins, IsLater}
-use Rattle.recovery_lines.specs.Ties.{IsFit, IsAnswer, OwnLines, KeptLines, AnswerLines, AttemptLines, ChoiceLines, ReadyLines, ReplicaLines, DoneLines, ActLines, AfterLines, newest_of, IsOf}
-use Rattle.faithful.proofs.Growing.{same_number, all_more, book_more}
+use Rattle.protocol.specs.Recovery.{epoch_of, tuple_of_newest, lowers, restores, restores_read, installs_own, is_other, is_better, best_of, asks_part, chooses}
+use Rattle.faithful.specs.Scanners.{Mark, Begun, Restored, touches, life, chosen, before_attempt, lines_before_this, attempts_told, told, begun, or_else, Reaches, position}
+use Rattle.faithful.specs.Rules.{AllKnown, BySkips, Chooses, Restores}
+use Rattle.recovery_lines.specs.Ties.{IsFit, OwnLines, AttemptLines, ChoiceLines, DoneLines, ActLines, AfterLines, newest_of}
+use Rattle.faithful.proofs.Growing.{same_number, all_more}
 use Rattle.faithful.proofs.Ordering.{Reaches-refl, Reaches-trans, rings_fit, not_after, after_reaches, same_tuple, paired_same}
-use Rattle.faithful.proofs.Quorum.{mapped, partition_there}
-use Rattle.recovery_lines.proofs.More.{SameOwn, SameAttempt, AllKnown-more, BySkips-more, OwnLines-same, AttemptLines-same, told_same, ReplicaLines-quiet}
+use Rattle.faithful.proofs.Quorum.{partition_there}
+use Rattle.recovery_lines.proofs.More.{SameOwn, SameAttempt, AllKnown-more, OwnLines-same, AttemptLines-same, told_same}
 use Rattle.recovery_lines.proofs.Trimmed.{trims_reached}
-use Rattle.recovery_lines.proofs.Printing.{differ, said_sends, all_flat, prints_done, sends_done, stage_done, lowers_done}
+use Rattle.recovery_lines.proofs.Printing.{differ, said_sends, prints_done, sends_done, stage_done, lowers_done}
 use Rattle.faithful.proofs.Between.{BySkips-refl}
 
 -- ---- the best of some answers
@@ -286,7 +285,7 @@ module _ (c : Config) (fit : IsFit c) (before : List Line) (merged : (a : Acting
 
       by_node : (s : Bool) → (best.0.0 == a.view.id.0) ≡ s
           → AfterLines c before (if s then installs_own c service a.view.checks.newest (with_stage service stage (prints (l ∷ []) a))
-            else sends_all (asks_part a.view attempt choice) (with_stage service stage (prints (l ∷ []) a)))
+          else sends_all (asks_part a.view attempt choice) (with_stage service stage (prints (l ∷ []) a)))
       by_node true e =
           installed service a.view.checks.newest (with_stage service stage (prints (l ∷ []) a)) (l ∷ lines) refl gathering
           own_more told_more (mark_differs (life a.view.id.0 (l ∷ lines)) attempt_more.begun)

@@ -1,6 +1,6 @@
 -- The frames and ticks of recovery.
-use Rattle.std.proofs.Common.{◌≡◌, ℕ, suc, ◌+◌, ◌-◌, ◌<◌, ◌≤◌, ◌⊎◌, inl, inr, Bool, true, false, IsTrue, List, [], ◌∷◌, ◌++◌, Option, Some, None, refl, sym, ◌∙◌, ap, subst, arith, true≢false, le_trans}
-use Rattle.std.specs.Prelude.{◌==◌, nat_eq, nat_lt, nat_le, ◌&&◌, ◌||◌, not, if◌then◌else◌, length, filter, min, take, drop}
+use Rattle.std.proofs.Common.{◌≡◌, ℕ, ◌-◌, ◌≤◌, ◌⊎◌, inl, inr, Bool, true, false, List, [], ◌∷◌, ◌++◌, Option, Some, None, refl, sym, ◌∙◌, ap, subst, arith, true≢false}
+use Rattle.std.specs.Prelude.{◌==◌, nat_lt, ◌&&◌, ◌||◌, not, if◌then◌else◌, length, min, take, drop}
 use Rattle.std.specs.List.{AllByRecursion, flat_map}
 use Rattle.std.specs.Option.{unwrap_or}
 use Rattle.std.proofs.lemmas.Bool.Decides.{nat_tests}
@@ -11,7 +11,7 @@ use Rattle.mrp_config.specs.Config.{Config, has_node, has_ring}
 use Rattle.mrp_config.specs.declared.tables.PartitionTable.{PartitionTable}
 use Rattle.quorums.specs.Groups.{Has}
 use Rattle.frames.specs.declared.body.Body.{Body}
-use Rattle.frames.specs.declared.body.Body.TheVariants.{AskCheckpoint, HaveCheckpoint, AskPart, Part as PartFrame, Gone as GoneFrame, Safe}
+use Rattle.frames.specs.declared.body.Body.TheVariants.{HaveCheckpoint, AskPart, Part as PartFrame, Gone as GoneFrame, Safe}
 use Rattle.frames.specs.declared.sent.Sent.{Sent}
 use Rattle.frames.specs.Grammar.{part_of as part_size}
 use Rattle.checkpoint.specs.Checks.{Checkpoint, PartAnswer, Part as PartOf, Gone, Unknown, part_of, part_in, part_at, is_same_tuple, is_after}
@@ -19,23 +19,19 @@ use Rattle.plain_model.specs.Replicas.{Replica}
 use Rattle.plain_model.specs.StateBytes.{state_of}
 use Rattle.plain_model.specs.Tuples.{round_sizes, is_tuple_of, has_rings, entry_at, instances}
 use Rattle.plain_model.proofs.TupleOrder.{split_and}
-use Rattle.protocol.specs.Lines.{Line, Begin, Refuse}
-use Rattle.protocol.specs.Opening.{partition_of}
+use Rattle.protocol.specs.Lines.{Line, Begin}
 use Rattle.protocol.specs.Rings.{sends_to, subscribers_of}
 use Rattle.protocol.specs.Trimming.{has_answered}
-use Rattle.protocol.specs.Node.{Acting, View, Service, Stage, Recovering, Ready, Attempt, Choice, with_stage, prints, sends_all}
-use Rattle.protocol.specs.Merging.{merges}
-use Rattle.protocol.specs.Recovery.{epoch_of, own_tuple, tuple_of_newest, others_of, is_of, takes_answer, answered_by, is_of_choice, restores, restores_or_begins, with_more, part_for, takes_part, gone_for, takes_gone, chooses, chooses_if_quorum, begins, tells_checkpoint, answer_part, tells_part, safe_in, safe_of, asks_checkpoint, asks_part, asks_missing, ends_attempt, ticks_attempt, recovery_ticks}
+use Rattle.protocol.specs.Node.{Acting, Service, Recovering, Attempt, Choice, with_stage, sends_all}
+use Rattle.protocol.specs.Recovery.{epoch_of, own_tuple, tuple_of_newest, is_of, takes_answer, answered_by, is_of_choice, restores_or_begins, part_for, takes_part, gone_for, takes_gone, tells_checkpoint, answer_part, tells_part, safe_in, safe_of, asks_part}
 use Rattle.protocol.specs.Step.{tells_safe}
-use Rattle.faithful.specs.Scanners.{Mark, Begun, Restored, touches, life, attempting, unchosen, before_attempt, lines_before_this, or_else, told, tuples_told, entry_of, Reaches, some_reaches}
-use Rattle.faithful.specs.Rules.{AllKnown, Refuses}
-use Rattle.faithful.specs.Answers.{AreDifferent}
-use Rattle.recovery_lines.specs.Ties.{IsFit, IsAnswer, IsSafe, IsSaid, BodySaid, OwnLines, AnswerLines, AttemptLines, ChoiceLines, ChosenLines, StageLines, ServiceLines, ReplicaLines, DoneLines, ActLines, AfterLines, newest_of}
+use Rattle.faithful.specs.Scanners.{Mark, Begun, Restored, touches, life, before_attempt, lines_before_this, or_else, told, tuples_told, entry_of, Reaches, some_reaches}
+use Rattle.faithful.specs.Rules.{AllKnown}
+use Rattle.recovery_lines.specs.Ties.{IsFit, IsAnswer, IsSafe, IsSaid, BodySaid, OwnLines, AnswerLines, ChoiceLines, ChosenLines, StageLines, ActLines, AfterLines, newest_of}
 use Rattle.faithful.proofs.Growing.{same_number, all_more}
-use Rattle.faithful.proofs.Ordering.{Reaches-refl, Reaches-trans, rings_fit, after_reaches}
+use Rattle.faithful.proofs.Ordering.{Reaches-trans, rings_fit, after_reaches}
 use Rattle.faithful.proofs.Quorum.{all_has, appended, mapped, different_more, is_some_reaches, partition_there}
-use Rattle.recovery_lines.proofs.More.{ReplicaLines-quiet, ServiceLines-quiet}
-use Rattle.recovery_lines.proofs.Printing.{said_sends, said_others, all_flat, prints_done, sends_done, stage_done}
+use Rattle.recovery_lines.proofs.Printing.{said_sends, said_others, sends_done, stage_done}
 use Rattle.recovery_lines.proofs.Choosing.{restored, choosing}
 use Rattle.recovery_lines.proofs.Beginning.{quorum_chooses, beginning}
 use Rattle.recovery_lines.proofs.Merging.{merged_all}
@@ -219,14 +215,16 @@ module _ (c : Config) (fit : IsFit c) (before : List Line) (a : Acting) (lines :
                 faithful = stage.0.faithful;
                 different = different_more attempt.answers from tuple stage.0.different new;
                 heard = has_left attempt.answers ((from, tuple) ∷ []) _ stage.0.heard;
-                answered = appended (AnswerLines c lines a.view.id (epoch_of a.view) a.view.checks.newest service.partition attempt.number) attempt.answers ((from, tuple) ∷ []) stage.0.answered
-                    (record {
-                      replica = replica;
-                      valid = valid;
-                      said = subst (λ (n : ℕ). IsAnswer lines a.view.id.0 (epoch_of a.view) n from.0 (instances tuple)) en
-                          (subst (λ (ep : ℕ). IsAnswer lines a.view.id.0 ep number from.0 (instances tuple)) ee said);
-                      own = λ same. absurd (true≢false (sym (again same) ∙ new));
-                    }, tt);
+                answered = appended (AnswerLines c lines a.view.id (epoch_of a.view) a.view.checks.newest service.partition attempt.number) attempt.answers ((from, tuple) ∷ []) stage.0.answered (
+                  record {
+                    replica = replica;
+                    valid = valid;
+                    said = subst (λ (n : ℕ). IsAnswer lines a.view.id.0 (epoch_of a.view) n from.0 (instances tuple)) en
+                        (subst (λ (ep : ℕ). IsAnswer lines a.view.id.0 ep number from.0 (instances tuple)) ee said);
+                    own = λ same. absurd (true≢false (sym (again same) ∙ new));
+                  },
+                  tt,
+                );
               }) ch.0 e
             where
               by_number : (n : ℕ) → a.view.id.0 ≡ n → has_answered (let node : NodeId = record { 0 = n } in node) attempt.answers ≡ true
@@ -258,15 +256,15 @@ module _ (c : Config) (fit : IsFit c) (before : List Line) (a : Acting) (lines :
               by_test (AfterLines c before) (is_of a.view attempt epoch number && (is_of_choice choice from asked
               && (is_tuple_of (round_sizes c) service.partition.rings newer && is_after choice.tuple newer))) _ a
               (λ e.
-                let s = split_and (is_of a.view attempt epoch number) _ e in
-                let t = split_and (is_of_choice choice from asked) _ s.1 in
-                let u = split_and (from.0 == choice.from.0) (is_same_tuple asked choice.tuple) t.0 in
-                let v = split_and (is_tuple_of (round_sizes c) service.partition.rings newer) (is_after choice.tuple newer) t.1 in
-                let up : Reaches (instances newer) (instances choice.tuple) = after_reaches (round_sizes c) service.partition.rings choice.tuple newer ch.valid v.0 v.1 in
-                choosing c fit before (merged_all c fit before) service attempt (choice.from, newer) a lines ties.done own mine stage.0 ch.enough ch.replica v.0
-                (subst (λ (n : ℕ). Has (told n lines) (instances newer)) (same_num from.0 choice.from.0 u.0) tells) (λ same. absurd (other (same_num from.0 choice.from.0 u.0 ∙ same)))
-                (mapped (λ (answer : NodeId × List (RingId × ℕ)). Reaches (instances choice.tuple) (instances answer.1)) (λ (answer : NodeId × List (RingId × ℕ)). Reaches (instances newer) (instances answer.1))
-                (λ answer r. Reaches-trans _ _ _ up r) attempt.answers ch.reaches))
+              let s = split_and (is_of a.view attempt epoch number) _ e in
+              let t = split_and (is_of_choice choice from asked) _ s.1 in
+              let u = split_and (from.0 == choice.from.0) (is_same_tuple asked choice.tuple) t.0 in
+              let v = split_and (is_tuple_of (round_sizes c) service.partition.rings newer) (is_after choice.tuple newer) t.1 in
+              let up : Reaches (instances newer) (instances choice.tuple) = after_reaches (round_sizes c) service.partition.rings choice.tuple newer ch.valid v.0 v.1 in
+              choosing c fit before (merged_all c fit before) service attempt (choice.from, newer) a lines ties.done own mine stage.0 ch.enough ch.replica v.0
+              (subst (λ (n : ℕ). Has (told n lines) (instances newer)) (same_num from.0 choice.from.0 u.0) tells) (λ same. absurd (other (same_num from.0 choice.from.0 u.0 ∙ same)))
+              (mapped (λ (answer : NodeId × List (RingId × ℕ)). Reaches (instances choice.tuple) (instances answer.1)) (λ (answer : NodeId × List (RingId × ℕ)). Reaches (instances newer) (instances answer.1))
+              (λ answer r. Reaches-trans _ _ _ up r) attempt.answers ch.reaches))
               as_it_was
 
       -- a part of the chosen checkpoint

@@ -1,35 +1,33 @@
 -- A ready replica takes place after place: skips leave no line, a batch is delivered.
-use Rattle.std.proofs.Common.{◌≡◌, ℕ, zero, suc, ◌+◌, ◌^◌, ◌<◌, ◌≤◌, Bool, true, false, List, [], ◌∷◌, ◌++◌, map, Option, Some, None, refl, sym, ◌∙◌, ap, subst, arith, true≢false}
-use Rattle.std.specs.Prelude.{◌==◌, nat_eq, nat_lt, if◌then◌else◌, length}
+use Rattle.std.proofs.Common.{◌≡◌, ℕ, zero, suc, ◌+◌, ◌^◌, ◌<◌, Bool, true, false, List, [], ◌∷◌, map, Option, Some, None, refl, sym, ◌∙◌, ap, subst, arith, true≢false}
+use Rattle.std.specs.Prelude.{◌==◌, nat_lt, if◌then◌else◌, length}
 use Rattle.std.specs.List.{AllByRecursion}
 use Rattle.std.proofs.lemmas.Bool.Decides.{nat_tests}
 use Rattle.mrp_types.specs.declared.id.NodeId.{NodeId}
 use Rattle.mrp_types.specs.declared.id.RingId.{RingId}
-use Rattle.mrp_types.specs.declared.place.Place.{Place}
 use Rattle.mrp_types.specs.declared.value.Value.{Value}
 use Rattle.mrp_types.specs.declared.value.Entry.{Entry}
 use Rattle.mrp_types.specs.declared.value.Value.TheVariants.{Skip, Batch}
 use Rattle.mrp_types.specs.declared.id.TheConstants.{END}
 use Rattle.mrp_config.specs.Config.{Config}
-use Rattle.mrp_config.specs.declared.tables.PartitionTable.{PartitionTable}
 use Rattle.frames.specs.declared.sent.Sent.{Sent}
 use Rattle.quorums.specs.Groups.{Has}
 use Rattle.checkpoint.specs.Checks.{Checkpoint}
 use Rattle.plain_model.specs.Replicas.{AppliedAll, applies, entries_of_batch}
-use Rattle.plain_model.specs.Tuples.{round_sizes, place_of as place_from, next_place, past, is_tuple_of, instances, moved_past, tuple_at}
+use Rattle.plain_model.specs.Tuples.{round_sizes, next_place, past, is_tuple_of, instances, moved_past}
 use Rattle.plain_model.proofs.TupleAt.{by_number}
-use Rattle.protocol.specs.Lines.{Line, Deliver, Reply}
+use Rattle.protocol.specs.Lines.{Line, Deliver}
 use Rattle.protocol.specs.Learner.{value_in}
 use Rattle.protocol.specs.Recovery.{epoch_of}
-use Rattle.protocol.specs.Node.{Acting, View, RingPart, Service, Stage, Recovering, Ready, Standing, part_in, part_at, with_stage, prints}
-use Rattle.protocol.specs.Merging.{value_of_part, value_at_place, place_of, reply_line, reply_frame, replying, skipped, passed_batch, delivers, delivers_applied, takes_place, goes_on, merges_stage, merges_service, merges_up_to, merges}
-use Rattle.faithful.specs.Scanners.{past as printed_past, touches, life, told, Restored, Reaches, position, book}
-use Rattle.faithful.specs.Rules.{AllKnown, BySkips, Delivers, IsFaithfulLine, AreFaithful}
+use Rattle.protocol.specs.Node.{Acting, RingPart, Service, Stage, Recovering, Ready, Standing, part_in, with_stage, prints}
+use Rattle.protocol.specs.Merging.{value_of_part, value_at_place, place_of, reply_line, reply_frame, skipped, passed_batch, delivers_applied, takes_place, goes_on, merges_stage, merges_service, merges_up_to, merges}
+use Rattle.faithful.specs.Scanners.{past as printed_past, touches, told, Reaches, position, book}
+use Rattle.faithful.specs.Rules.{BySkips, Delivers, IsFaithfulLine, AreFaithful}
 use Rattle.recovery_lines.specs.Ties.{KnownLines, IsFit, IsSaid, PartLines, OwnLines, ReadyLines, StageLines, ServiceLines, ReplicaLines, DoneLines, ActLines, AfterLines, newest_of, IsOf}
-use Rattle.faithful.proofs.Growing.{same_number, past_more, position_own}
+use Rattle.faithful.proofs.Growing.{same_number, past_more}
 use Rattle.faithful.proofs.Ordering.{Reaches-trans, rings_fit, is_valid}
 use Rattle.faithful.proofs.Quorum.{appended, mapped, partition_there}
-use Rattle.recovery_lines.proofs.More.{KnownLines-more, SameOwn, AllKnown-more, OwnLines-same, told_same, IsSaid-more, PartLines-more, ReplicaLines-quiet, ServiceLines-quiet}
+use Rattle.recovery_lines.proofs.More.{KnownLines-more, SameOwn, AllKnown-more, OwnLines-same, told_same, IsSaid-more, PartLines-more, ReplicaLines-quiet}
 use Rattle.recovery_lines.proofs.Printing.{differ, prints_done, stage_done}
 use Rattle.faithful.proofs.Between.{BySkips-refl}
 use Rattle.faithful.proofs.Moving.{past_tuple, past_reaches, past_later, past_known, past_skips, tuple_at_next, next_there, same_size}

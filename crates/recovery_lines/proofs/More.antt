@@ -1,12 +1,10 @@
 -- What is said of lines is said of more lines.
-use Rattle.std.proofs.Common.{◌≡◌, ℕ, ◌<◌, ◌≤◌, ◌⊎◌, inl, inr, Bool, true, false, List, [], ◌∷◌, ◌++◌, Option, Some, None, refl, sym, ◌∙◌, ap, subst, arith, le_trans}
+use Rattle.std.proofs.Common.{◌≡◌, ℕ, inl, inr, Bool, true, false, List, [], ◌∷◌, ◌++◌, Option, Some, None, refl, sym, ◌∙◌, subst, le_trans}
 use Rattle.std.specs.Prelude.{if◌then◌else◌}
-use Rattle.std.specs.List.{AllByRecursion}
 use Rattle.mrp_types.specs.declared.id.NodeId.{NodeId}
 use Rattle.mrp_types.specs.declared.id.RingId.{RingId}
 use Rattle.mrp_types.specs.declared.id.Party.{Party}
 use Rattle.mrp_types.specs.declared.id.Party.TheVariants.{Node, Client}
-use Rattle.mrp_types.specs.declared.value.Value.{Value}
 use Rattle.mrp_types.specs.declared.value.Value.TheVariants.{Skip}
 use Rattle.mrp_config.specs.Config.{Config}
 use Rattle.mrp_config.specs.declared.tables.PartitionTable.{PartitionTable}
@@ -18,11 +16,11 @@ use Rattle.checkpoint.specs.Checks.{Checkpoint}
 use Rattle.protocol.specs.Lines.{Line}
 use Rattle.protocol.specs.Rings.{subscribers_of}
 use Rattle.protocol.specs.Parts.{Round}
-use Rattle.protocol.specs.Node.{RingPart, Service, Stage, Recovering, Ready, Choice, Attempt}
+use Rattle.protocol.specs.Node.{RingPart, Service, Stage, Recovering, Ready, Choice}
 use Rattle.plain_model.specs.Tuples.{round_sizes, instances}
-use Rattle.faithful.specs.Scanners.{touches, life, up_epoch, attempting, unchosen, chosen, before_begin, before_attempt, told, begun, mark_of, epoch_told, attempt_told, open_told, choice_told, lines_before, lines_before_this, tuples_told, attempts_told, Reaches, some_reaches, position, book}
-use Rattle.faithful.specs.Rules.{IsKnown, AllKnown, BySkips, AllHaveTold, HaveTold}
-use Rattle.recovery_lines.specs.Ties.{TellsKnown, KnownLines, IsAnswer, IsSafe, BodySaid, PartySaid, IsSaid, RoundLines, CurrentLines, PartLines, KeptLines, OwnLines, AnswerLines, AttemptLines, ChoiceLines, ChosenLines, ReadyLines, StageLines, ServiceLines, ReplicaLines, newest_of, IsCovered, PartTold}
+use Rattle.faithful.specs.Scanners.{touches, life, up_epoch, attempting, before_begin, told, begun, mark_of, epoch_told, attempt_told, open_told, choice_told, lines_before, lines_before_this, tuples_told, attempts_told, some_reaches}
+use Rattle.faithful.specs.Rules.{AllKnown, BySkips, AllHaveTold, HaveTold}
+use Rattle.recovery_lines.specs.Ties.{TellsKnown, KnownLines, IsAnswer, IsSafe, BodySaid, PartySaid, IsSaid, RoundLines, CurrentLines, PartLines, KeptLines, OwnLines, AnswerLines, AttemptLines, ChosenLines, StageLines, ServiceLines, ReplicaLines, newest_of, IsCovered, PartTold}
 use Rattle.faithful.proofs.Growing.{has_split, last_quiet, all_quiet, all_more, first_more, book_more, position_quiet}
 use Rattle.faithful.proofs.Quorum.{mapped, some_reaches_is, is_some_reaches, count_le}
 

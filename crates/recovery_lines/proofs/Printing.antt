@@ -1,6 +1,6 @@
 -- What prints, sends and changes a stage, as far as lines go.
-use Rattle.std.proofs.Common.{◌≡◌, ℕ, ◌<◌, ◌≤◌, ◌⊎◌, inl, inr, Bool, true, false, List, [], ◌∷◌, ◌++◌, map, Option, Some, None, refl, sym, ◌∙◌, ap, subst, arith, true≢false}
-use Rattle.std.specs.Prelude.{◌==◌, nat_eq, ◌||◌, if◌then◌else◌}
+use Rattle.std.proofs.Common.{◌≡◌, ℕ, inl, inr, Bool, true, false, List, [], ◌∷◌, map, Some, refl, sym, ◌∙◌, ap, subst, arith, true≢false}
+use Rattle.std.specs.Prelude.{◌==◌, ◌||◌, if◌then◌else◌}
 use Rattle.std.specs.List.{AllByRecursion, flat_map}
 use Rattle.std.proofs.lemmas.Bool.Decides.{nat_tests}
 use Rattle.mrp_types.specs.declared.id.NodeId.{NodeId}
@@ -13,11 +13,10 @@ use Rattle.protocol.specs.Opening.{partition_of}
 use Rattle.frames.specs.declared.body.Body.{Body}
 use Rattle.frames.specs.declared.sent.Sent.{Sent}
 use Rattle.protocol.specs.Lines.{Line}
-use Rattle.protocol.specs.Parts.{Part}
 use Rattle.protocol.specs.Rings.{sends_to, sent_by, is_beyond}
 use Rattle.protocol.specs.Node.{Acting, RingPart, Service, Stage, with_stage, prints, sends_all}
 use Rattle.protocol.specs.Recovery.{with_lowered, lowers}
-use Rattle.faithful.specs.Scanners.{touches, paired}
+use Rattle.faithful.specs.Scanners.{paired}
 use Rattle.faithful.specs.Rules.{IsFaithfulLine, AllKnown}
 use Rattle.recovery_lines.specs.Ties.{TellsKnown, BodySaid, IsSaid, PartLines, DoneLines, IsOf}
 use Rattle.faithful.proofs.Growing.{past_more, same_number}
@@ -57,7 +56,7 @@ tells_own c lines x r p q own k e rx rr vo vk (inl same) known =
     let node : x ≡ r = ap (λ (n : ℕ). let made : NodeId = record { 0 = n } in made) number in
     let one : p ≡ q = some_same p q (sym rx ∙ ap (λ (n : NodeId). partition_of c.partitions n) node ∙ rr) in
     let back : k ≡ own = sym (paired_same q.rings k (rings_fit (round_sizes c) q.rings k vk)) ∙ ap (λ (t : List ℕ). paired q.rings t) same
-        ∙ ap (λ (s : PartitionTable). paired s.rings (instances own)) (sym one) ∙ paired_same p.rings own (rings_fit (round_sizes c) p.rings own vo) in
+    ∙ ap (λ (s : PartitionTable). paired s.rings (instances own)) (sym one) ∙ paired_same p.rings own (rings_fit (round_sizes c) p.rings own vo) in
     subst (λ (t : List (RingId × ℕ)). AllKnown lines t) (sym back) known
   where
     same_num : (i j : ℕ) → (i == j) ≡ true → i ≡ j

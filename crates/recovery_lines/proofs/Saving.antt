@@ -1,7 +1,6 @@
 -- A save: its line, and what the disk stands for before and after. Then what a node is once it is down, and when it opens.
-use Rattle.std.proofs.Common.{◌≡◌, ℕ, suc, ◌+◌, ◌<◌, ◌≤◌, ◌⊎◌, inl, inr, Bool, true, false, List, [], ◌∷◌, ◌++◌, Option, Some, None, refl, sym, ◌∙◌, ap, subst, arith, le_trans}
-use Rattle.std.specs.Prelude.{◌==◌, nat_eq, nat_lt, nat_le, ◌&&◌, ◌^◌, ◌-◌, if◌then◌else◌}
-use Rattle.std.specs.List.{AllByRecursion}
+use Rattle.std.proofs.Common.{◌≡◌, ℕ, ◌+◌, ◌<◌, ◌≤◌, ◌⊎◌, inl, inr, Bool, true, false, List, ◌∷◌, Option, Some, None, refl, sym, subst, arith}
+use Rattle.std.specs.Prelude.{nat_lt, nat_le, ◌^◌, ◌-◌, if◌then◌else◌}
 use Rattle.std.proofs.lemmas.Bool.Decides.{nat_tests}
 use Rattle.mrp_types.specs.declared.id.NodeId.{NodeId}
 use Rattle.mrp_types.specs.declared.id.RingId.{RingId}
@@ -10,16 +9,16 @@ use Rattle.mrp_config.specs.declared.tables.PartitionTable.{PartitionTable}
 use Rattle.quorums.specs.Groups.{Has}
 use Rattle.checkpoint.specs.Checks.{Checkpoint}
 use Rattle.plain_model.specs.StateBytes.{state_bytes}
-use Rattle.plain_model.specs.Tuples.{round_sizes, is_tuple_of, instances}
+use Rattle.plain_model.specs.Tuples.{round_sizes, instances}
 use Rattle.plain_model.proofs.TupleOrder.{split_and}
 use Rattle.protocol.specs.Lines.{Line, Cause, Saved, Down, Up}
 use Rattle.protocol.specs.Opening.{partition_of}
-use Rattle.protocol.specs.Node.{View, RingPart, Service, Stage, Recovering, Ready, Standing, Stepped}
-use Rattle.protocol.specs.Recovery.{epoch_of, tuple_of_newest}
+use Rattle.protocol.specs.Node.{View, Service, Stage, Recovering, Ready, Standing, Stepped}
+use Rattle.protocol.specs.Recovery.{epoch_of}
 use Rattle.protocol.specs.Tick.{saves, is_due_to_save, saves_stage, saves_first}
-use Rattle.faithful.specs.Scanners.{Restored, life, told, begun, Reaches, position}
-use Rattle.faithful.specs.Rules.{AllKnown, BySkips, Saves, IsFaithfulLine}
-use Rattle.recovery_lines.specs.Ties.{IsFit, PartLines, KeptLines, OwnLines, ReadyLines, StageLines, ServiceLines, ReplicaLines, StepLines, ViewLines, newest_of, IsOf}
+use Rattle.faithful.specs.Scanners.{told, begun, Reaches, position}
+use Rattle.faithful.specs.Rules.{BySkips, Saves}
+use Rattle.recovery_lines.specs.Ties.{IsFit, PartLines, KeptLines, OwnLines, ReadyLines, StageLines, ServiceLines, ReplicaLines, StepLines, ViewLines}
 use Rattle.faithful.proofs.Growing.{same_number}
 use Rattle.faithful.proofs.Ordering.{Reaches-refl, Reaches-trans}
 use Rattle.faithful.proofs.Quorum.{mapped}

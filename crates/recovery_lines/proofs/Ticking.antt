@@ -1,25 +1,20 @@
 -- Recovery's tick, and an attempt that begins since the merge waits below a trim.
-use Rattle.std.proofs.Common.{◌≡◌, ℕ, suc, ◌+◌, ◌-◌, ◌<◌, ◌≤◌, ◌⊎◌, inl, inr, Bool, true, false, List, [], ◌∷◌, ◌++◌, Option, Some, None, refl, sym, ◌∙◌, ap, subst, arith}
-use Rattle.std.specs.Prelude.{◌==◌, nat_eq, nat_lt, nat_le, ◌&&◌, not, if◌then◌else◌, length, filter}
-use Rattle.std.specs.List.{AllByRecursion, flat_map}
+use Rattle.std.proofs.Common.{◌≡◌, ℕ, ◌+◌, ◌<◌, ◌≤◌, Bool, true, false, List, [], ◌∷◌, Option, Some, None, refl, arith}
+use Rattle.std.specs.Prelude.{◌==◌, nat_lt, not, if◌then◌else◌, length, filter}
+use Rattle.std.specs.List.{AllByRecursion}
 use Rattle.std.proofs.lemmas.Bool.Decides.{nat_tests}
-use Rattle.mrp_types.specs.declared.id.NodeId.{NodeId}
 use Rattle.mrp_types.specs.declared.id.RingId.{RingId}
 use Rattle.mrp_config.specs.Config.{Config}
-use Rattle.mrp_config.specs.declared.tables.PartitionTable.{PartitionTable}
-use Rattle.quorums.specs.Groups.{Has}
 use Rattle.frames.specs.declared.body.Body.TheVariants.{AskCheckpoint, AskPart}
-use Rattle.frames.specs.declared.sent.Sent.{Sent}
 use Rattle.protocol.specs.Lines.{Line, Refuse}
-use Rattle.protocol.specs.Opening.{partition_of}
 use Rattle.protocol.specs.Trimming.{has_answered}
-use Rattle.protocol.specs.Node.{Acting, View, Service, Stage, Recovering, Ready, Standing, Attempt, Choice, with_stage, prints, sends_all}
+use Rattle.protocol.specs.Node.{Acting, Service, Stage, Recovering, Ready, Attempt, Choice, with_stage, prints, sends_all}
 use Rattle.protocol.specs.Merging.{place_of}
 use Rattle.protocol.specs.Step.{waits_below, begins_if_behind, after_trim, behind}
-use Rattle.protocol.specs.Recovery.{epoch_of, others_of, begins, asks_checkpoint, asks_part, asks_missing, ends_attempt, ticks_attempt, recovery_ticks}
-use Rattle.faithful.specs.Scanners.{told, unchosen}
+use Rattle.protocol.specs.Recovery.{epoch_of, others_of, begins, asks_checkpoint, asks_missing, ends_attempt, recovery_ticks}
+use Rattle.faithful.specs.Scanners.{unchosen}
 use Rattle.faithful.specs.Rules.{Refuses}
-use Rattle.recovery_lines.specs.Ties.{IsFit, IsSaid, OwnLines, ChosenLines, StageLines, ServiceLines, ReplicaLines, ActLines, AfterLines, newest_of}
+use Rattle.recovery_lines.specs.Ties.{IsFit, IsSaid, OwnLines, ChosenLines, StageLines, ServiceLines, ReplicaLines, ActLines, AfterLines}
 use Rattle.recovery_lines.proofs.More.{OwnLines-same, quiet_own, ReplicaLines-quiet}
 use Rattle.recovery_lines.proofs.Printing.{said_sends, all_flat, prints_done, sends_done, stage_done}
 use Rattle.recovery_lines.proofs.Beginning.{beginning}

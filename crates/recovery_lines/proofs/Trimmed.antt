@@ -1,6 +1,6 @@
 -- A choice reaches each trim whose line stands before the begin line: a trim quorum told it by then, and one of these replicas
 -- answered.
-use Rattle.std.proofs.Common.{◌≡◌, ℕ, ◌+◌, ◌<◌, ◌≤◌, ◌⊎◌, inl, inr, Bool, true, false, List, [], ◌∷◌, Option, Some, None, refl, sym, ◌∙◌, ap, subst, arith, le_trans}
+use Rattle.std.proofs.Common.{◌≡◌, ℕ, ◌+◌, ◌<◌, ◌≤◌, Bool, true, List, [], ◌∷◌, Option, Some, sym, ◌∙◌, subst, arith, le_trans}
 use Rattle.std.specs.Prelude.{length, count_by}
 use Rattle.std.specs.List.{AllByRecursion}
 use Rattle.mrp_types.specs.declared.id.NodeId.{NodeId}
@@ -10,13 +10,12 @@ use Rattle.mrp_config.specs.declared.tables.PartitionTable.{PartitionTable}
 use Rattle.quorums.specs.Groups.{Has}
 use Rattle.checkpoint.specs.Checks.{Checkpoint}
 use Rattle.plain_model.specs.Tuples.{instances}
-use Rattle.protocol.specs.Lines.{Line, Learn, Deliver, Reply, Answer, Busy, Begin, Chose, Restore, Saved, Trim, Refuse, BallotLimit, InstanceLimit, AttemptLimit, Down, Up, State, Frame, End}
-use Rattle.protocol.specs.Opening.{partition_of}
+use Rattle.protocol.specs.Lines.{Line, Trim}
 use Rattle.protocol.specs.Rings.{subscribers_of}
 use Rattle.protocol.specs.Trimming.{has_answered}
-use Rattle.faithful.specs.Scanners.{before_attempt, told, entry_of, Reaches, some_reaches, tuples_told}
+use Rattle.faithful.specs.Scanners.{told, entry_of, Reaches, some_reaches, tuples_told}
 use Rattle.faithful.specs.Rules.{IsReached, HaveTold, AllHaveTold, IsFaithfulLine, AreFaithful}
-use Rattle.faithful.specs.Answers.{AreDifferent, Both}
+use Rattle.faithful.specs.Answers.{Both}
 use Rattle.recovery_lines.specs.Ties.{IsFit, IsAnswer, AnswerLines, AttemptLines}
 use Rattle.faithful.proofs.Growing.{all_more}
 use Rattle.faithful.proofs.Quorum.{all_has, mapped, share, all_count, different_count, AnswerOf, answer_of, all_answered, entry_reaches, some_reaches_is, subscribed}

@@ -1,10 +1,10 @@
 -- What a node and its frames have to do with the lines so far, as far as tuples go: no state's bytes.
-use Rattle.std.specs.Prelude.{◌≡◌, ℕ, ◌+◌, ◌<◌, ◌≤◌, ◌⊎◌, Bool, true, false, List, [], ◌∷◌, Option, Some, None, length, map}
+use Rattle.std.specs.Prelude.{◌≡◌, ℕ, ◌+◌, ◌<◌, ◌≤◌, ◌⊎◌, true, false, List, Option, Some, None, length, map}
 use Rattle.std.specs.List.{AllByRecursion}
 use Rattle.mrp_types.specs.declared.id.NodeId.{NodeId}
 use Rattle.mrp_types.specs.declared.id.RingId.{RingId}
 use Rattle.mrp_types.specs.declared.id.Party.{Party}
-use Rattle.mrp_types.specs.declared.id.Party.TheVariants.{Node, Client}
+use Rattle.mrp_types.specs.declared.id.Party.TheVariants.{Node}
 use Rattle.mrp_types.specs.declared.value.Value.{Value}
 use Rattle.mrp_config.specs.Config.{Config, has_node}
 use Rattle.mrp_config.specs.declared.tables.PartitionTable.{PartitionTable}
@@ -16,14 +16,14 @@ use Rattle.vote_state.specs.State.{State, trim_at}
 use Rattle.quorums.specs.Groups.{Has}
 use Rattle.checkpoint.specs.Checks.{Checkpoint}
 use Rattle.plain_model.specs.Tuples.{round_sizes, is_tuple_of, instances}
-use Rattle.protocol.specs.Lines.{Line, Learn, Trim, BallotLimit, InstanceLimit}
+use Rattle.protocol.specs.Lines.{Line}
 use Rattle.protocol.specs.Parts.{Ring, Round}
 use Rattle.protocol.specs.Opening.{partition_of}
 use Rattle.protocol.specs.Rings.{subscribers_of}
 use Rattle.protocol.specs.Learner.{value_in}
 use Rattle.protocol.specs.Recovery.{tuple_of_newest}
-use Rattle.protocol.specs.Node.{RingPart, Stage, Recovering, Ready, Standing, Attempt, Choice, Service, Acting, View, Stepped}
-use Rattle.faithful.specs.Scanners.{Mark, Begun, Restored, past, touches, tuples_told, life, up_epoch, attempting, unchosen, chosen, before_begin, before_attempt, told, begun, Reaches, some_reaches, position, book}
+use Rattle.protocol.specs.Node.{RingPart, Stage, Recovering, Ready, Choice, Service, Acting, View, Stepped}
+use Rattle.faithful.specs.Scanners.{Begun, Restored, past, touches, tuples_told, life, up_epoch, attempting, unchosen, chosen, before_begin, before_attempt, told, begun, Reaches, some_reaches, position, book}
 use Rattle.faithful.specs.Answers.{AreDifferent}
 use Rattle.faithful.specs.Rules.{AllKnown, BySkips, AreFaithful, AllHaveTold}
 

@@ -11,7 +11,7 @@ use Rattle.recovery_lines.proofs.Hearing.{safe_told, answer_taken, checkpoint_to
 use Rattle.recovery_lines.proofs.Ticking.{behind_lines}
 use Rattle.recovery_lines.proofs.More.{BodySaid-more}
 use Rattle.protocol.specs.Learning.{does}
-use Rattle.protocol.specs.Acceptor.{prepares, promises, refuses, accepts, fetches}
+use Rattle.protocol.specs.Acceptor.{prepares, accepts, fetches}
 use Rattle.step_lines.proofs.Recovery.{behind_onward, answered_onward, gone_onward, part_onward, tells_part_onward}
 use Rattle.mrp_types.specs.declared.id.ClientId.{ClientId}
 use Rattle.step_lines.proofs.Composing.{all_many}
@@ -21,18 +21,18 @@ use Rattle.mrp_types.specs.declared.id.NodeId.{NodeId}
 use Rattle.step_lines.proofs.Going.{goes_so, Goes-refl, acceptor_goes, if_goes, Goes-trans, member_goes, part_goes, part_placed, part_ring}
 use Rattle.mrp_types.specs.declared.id.RingId.{RingId}
 use Rattle.protocol.specs.Recovery.{epoch_of, safe_of, answered_by, takes_gone, takes_part, tells_checkpoint, tells_part}
-use Rattle.std.proofs.Common.{◌≡◌, ℕ, Bool, true, false, List, [], ◌∷◌, ◌++◌, Option, Some, None, refl, sym, ◌∙◌, ap, subst}
-use Rattle.std.specs.Prelude.{◌==◌, if◌then◌else◌}
+use Rattle.std.proofs.Common.{◌≡◌, ℕ, List, Option, Some, None, refl, sym, subst}
+use Rattle.std.specs.Prelude.{if◌then◌else◌}
 use Rattle.std.specs.List.{AllByRecursion}
-use Rattle.mrp_config.specs.Config.{Config, node_at, client_at}
+use Rattle.mrp_config.specs.Config.{Config}
 use Rattle.frames.specs.declared.body.Body.{Body}
 use Rattle.frames.specs.declared.body.Body.TheVariants.{Submit, Prepare, Promise, Refuse, Accept, Decide, Fetch, Chosen, Trimmed, TrimTo, AskSafe, Safe, AskCheckpoint, HaveCheckpoint, AskPart, Hello}
 use Rattle.frames.specs.declared.body.Body.TheVariants.{Gone, Reply, Part as PartFrame}
-use Rattle.protocol.specs.Lines.{Line, Answer}
-use Rattle.protocol.specs.Node.{Acting, View, RingPart, Service, Stage, Recovering, Ready, Attempt, part_in, part_at}
-use Rattle.protocol.specs.Step.{behind, at_member, at_acceptor, is_for, takes_trim_at, takes_trim, takes_submit, tells_safe, at_service, at_attempt, recovering, takes_body, takes_from}
-use Rattle.recovery_lines.specs.Ties.{IsFit, IsPlaced, IsCovered, IsSafe, BodySaid, PartySaid, ServiceLines, StageLines, ReplicaLines, ActLines, AfterLines, rings_in}
-use Rattle.step_lines.specs.Dids.{AllAgree, AllTold, DidTold, Stays, Onward, Goes}
+use Rattle.protocol.specs.Lines.{Line}
+use Rattle.protocol.specs.Node.{Acting, RingPart, Service, Stage, Recovering, Ready, Attempt, part_at}
+use Rattle.protocol.specs.Step.{behind, at_acceptor, is_for, takes_trim_at, takes_trim, takes_submit, tells_safe, at_service, at_attempt, recovering, takes_body}
+use Rattle.recovery_lines.specs.Ties.{IsFit, IsPlaced, IsCovered, IsSafe, BodySaid, ServiceLines, StageLines, ReplicaLines, ActLines, AfterLines, rings_in}
+use Rattle.step_lines.specs.Dids.{Onward, Goes}
 
 module _ (c : Config) (fit : IsFit c) (before : List Line) (a : Acting) (placed : AllByRecursion (IsPlaced c a.view.id) (rings_in a.view.parts)) where
   -- ---- the ring's

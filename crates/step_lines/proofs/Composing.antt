@@ -1,10 +1,9 @@
 -- Rules of rings among the lines: what a rule prints and sends, a range that is learned with the merge that follows, the end of
 -- a step, and the other nodes.
-use Rattle.std.proofs.Common.{◌≡◌, ℕ, zero, suc, ◌+◌, ◌<◌, ◌≤◌, ◌⊎◌, inl, inr, Bool, true, false, List, [], ◌∷◌, ◌++◌, map, Option, Some, None, refl, sym, ◌∙◌, ap, subst, arith, true≢false, le_refl, le_trans}
-use Rattle.std.specs.Prelude.{◌==◌, nat_eq, nat_lt, nat_le, ◌&&◌, if◌then◌else◌, cond, count_by}
+use Rattle.std.proofs.Common.{◌≡◌, ℕ, ◌<◌, ◌≤◌, ◌⊎◌, inl, inr, Bool, true, false, List, [], ◌∷◌, ◌++◌, map, Option, Some, None, refl, sym, ◌∙◌, ap, subst, arith, true≢false, le_refl}
+use Rattle.std.specs.Prelude.{◌==◌, nat_lt, nat_le, if◌then◌else◌}
 use Rattle.std.specs.List.{AllByRecursion}
 use Rattle.std.proofs.lemmas.Bool.Decides.{nat_tests}
-use Rattle.std.proofs.lemmas.Bool.{cases_lt}
 use Rattle.mrp_types.specs.declared.id.NodeId.{NodeId}
 use Rattle.mrp_types.specs.declared.id.RingId.{RingId}
 use Rattle.mrp_types.specs.declared.value.Value.{Value}
@@ -12,31 +11,30 @@ use Rattle.mrp_types.specs.declared.voted.Decided.{Decided}
 use Rattle.mrp_config.specs.Config.{Config}
 use Rattle.mrp_config.specs.declared.tables.PartitionTable.{PartitionTable}
 use Rattle.frames.specs.declared.sent.Sent.{Sent}
-use Rattle.quorums.specs.Groups.{Has}
 use Rattle.checkpoint.specs.Checks.{Checkpoint}
 use Rattle.plain_model.proofs.TupleAt.{by_number}
 use Rattle.vote_state.specs.State.{State, taken, changed}
 use Rattle.vote_state.specs.declared.change.Change.{Change}
 use Rattle.vote_journal.specs.Journal.{Journal, recorded}
-use Rattle.range_map.specs.Entries.{value_at, entries_from, IsIncreasingFrom}
+use Rattle.range_map.specs.Entries.{value_at, IsIncreasingFrom}
 use Rattle.range_map.proofs.EntryLemmas.{value_at-entries_from, increasing_entries_from}
 use Rattle.protocol.specs.Lines.{Line, Learn, Trim, BallotLimit, InstanceLimit}
-use Rattle.protocol.specs.Parts.{Ring, Round, Part, Did, Learner}
+use Rattle.protocol.specs.Parts.{Ring, Part, Did, Learner}
 use Rattle.protocol.specs.Rings.{subscribers_of}
 use Rattle.protocol.specs.Learner.{value_in, with_base}
 use Rattle.protocol.specs.Recovery.{epoch_of}
 use Rattle.protocol.specs.Bases.{rebased, rebases}
-use Rattle.protocol.specs.Node.{Acting, View, RingPart, Service, Stepped, with_part_in, with_part, prints, finished}
+use Rattle.protocol.specs.Node.{Acting, RingPart, Service, with_part_in, with_part, prints, finished}
 use Rattle.protocol.specs.Learning.{with_did}
 use Rattle.protocol.specs.Merging.{merges}
-use Rattle.faithful.specs.Scanners.{past, touches, or_else, told, tuples_told, learned_by, some_reaches, book}
-use Rattle.faithful.specs.Rules.{HaveTold, AllHaveTold, IsFaithfulLine, AreFaithful}
+use Rattle.faithful.specs.Scanners.{past, touches, or_else, told, learned_by, book}
+use Rattle.faithful.specs.Rules.{IsFaithfulLine, AreFaithful}
 use Rattle.step_lines.specs.Dids.{IsPlain, DidTold, AllTold, Onward}
 use Rattle.step_lines.proofs.Onward.{put_rings}
-use Rattle.recovery_lines.specs.Ties.{IsFit, IsSaid, PartLines, CurrentLines, KnownLines, KeptLines, ReplicaLines, DoneLines, ActLines, AfterLines, StepLines, ViewLines, IsOf, AreCovered, IsCovered, PartTold}
+use Rattle.recovery_lines.specs.Ties.{IsFit, IsSaid, PartLines, CurrentLines, KnownLines, KeptLines, ReplicaLines, ActLines, AfterLines, StepLines, IsOf, AreCovered, IsCovered, PartTold}
 use Rattle.faithful.proofs.Growing.{past_more, book_more}
-use Rattle.faithful.proofs.Quorum.{appended, mapped, count_cons}
-use Rattle.recovery_lines.proofs.More.{some_more, RoundLines-more, IsSaid-more, PartLines-more, KnownLines-more, AllKnown-more, ReplicaLines-quiet, KeptLines-same, quiet_own, AllHaveTold-more}
+use Rattle.faithful.proofs.Quorum.{appended, mapped}
+use Rattle.recovery_lines.proofs.More.{IsSaid-more, PartLines-more, KnownLines-more, ReplicaLines-quiet, KeptLines-same, quiet_own, AllHaveTold-more}
 use Rattle.recovery_lines.proofs.Merging.{merged_all}
 
 -- ---- changes
@@ -113,11 +111,13 @@ told_put c lines ring part round trim (p ∷ parts) all = go (p.ring.id.0 == rin
     go : (b : Bool) → (p.ring.id.0 == ring.0) ≡ b → AllByRecursion (PartTold c lines) (with_part_in ring part parts)
         → AllByRecursion (PartTold c lines) (if b then record p { part = part } ∷ parts else p ∷ with_part_in ring part parts)
     go true e rest =
-        let same : ring ≡ p.ring.id = by_number ring p.ring.id (same_num p.ring.id.0 ring.0 e) in
-        (record {
-          round = subst (λ (r : RingId). CurrentLines c lines r part.rounds.current) same round;
-          trim = subst (λ (r : RingId). IsCovered c lines r part.kept.trim) same trim;
-        }, all.1)
+        let same : ring ≡ p.ring.id = by_number ring p.ring.id (same_num p.ring.id.0 ring.0 e) in (
+          record {
+            round = subst (λ (r : RingId). CurrentLines c lines r part.rounds.current) same round;
+            trim = subst (λ (r : RingId). IsCovered c lines r part.kept.trim) same trim;
+          },
+          all.1,
+        )
     go false e rest = (all.0, rest)
 
 -- ---- a rule of a ring was made

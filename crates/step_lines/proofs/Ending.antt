@@ -1,7 +1,7 @@
 -- The end of a step: what it leaves, whether its work is done or stopped.
 use Rattle.step_lines.proofs.Onward.{Onward-trans, nothing_more}
 use Rattle.mrp_types.specs.declared.id.NodeId.{NodeId}
-use Rattle.std.proofs.Common.{◌≡◌, ℕ, Bool, true, false, List, [], ◌∷◌, ◌++◌, Option, Some, None, refl, sym, ◌∙◌, ap, subst}
+use Rattle.std.proofs.Common.{◌≡◌, ℕ, List, [], ◌∷◌, Option, Some, None, refl, sym, ◌∙◌, ap, subst}
 use Rattle.std.specs.Prelude.{map}
 use Rattle.std.specs.List.{AllByRecursion}
 use Rattle.mrp_config.specs.Config.{Config}
@@ -14,7 +14,7 @@ use Rattle.protocol.specs.Bases.{rebased, rebases}
 use Rattle.protocol.specs.Lines.{Line}
 use Rattle.protocol.specs.Opening.{partition_of}
 use Rattle.protocol.specs.Parts.{Ring}
-use Rattle.protocol.specs.Node.{Acting, View, RingPart, Service, Stepped, finished}
+use Rattle.protocol.specs.Node.{Acting, RingPart, Service, finished}
 use Rattle.faithful.specs.Scanners.{past}
 use Rattle.step_lines.proofs.Composing.{ends}
 use Rattle.recovery_lines.specs.Ties.{AreCovered, PartTold, ReplicaLines, ActLines, AfterLines, StepLines, rings_in}

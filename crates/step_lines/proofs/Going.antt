@@ -7,16 +7,16 @@ use Rattle.step_lines.proofs.Looping.{agree_at, rule_goes}
 use Rattle.std.proofs.lemmas.Bool.Decides.{nat_tests}
 use Rattle.plain_model.proofs.TupleAt.{by_number}
 use Rattle.mrp_types.specs.declared.id.RingId.{RingId}
-use Rattle.step_lines.proofs.Onward.{Onward-trans, Onward-refl, nothing_more}
+use Rattle.step_lines.proofs.Onward.{Onward-trans, Onward-refl}
 use Rattle.protocol.specs.Parts.{Ring, Part, Did}
-use Rattle.std.proofs.Common.{◌≡◌, ℕ, Bool, true, false, List, [], ◌∷◌, ◌++◌, Option, Some, None, refl, sym, ◌∙◌, ap, subst, arith}
-use Rattle.std.specs.Prelude.{◌==◌, map, if◌then◌else◌}
+use Rattle.std.proofs.Common.{◌≡◌, ℕ, Bool, true, false, List, [], ◌∷◌, Option, Some, None, refl, ◌∙◌, ap, subst, arith}
+use Rattle.std.specs.Prelude.{◌==◌, if◌then◌else◌}
 use Rattle.std.specs.List.{AllByRecursion}
 use Rattle.mrp_config.specs.Config.{Config}
 use Rattle.protocol.specs.Lines.{Line}
 use Rattle.protocol.specs.Node.{Acting, View, RingPart, part_in, part_at}
-use Rattle.recovery_lines.specs.Ties.{IsFit, IsPlaced, ActLines, AfterLines, rings_in}
-use Rattle.step_lines.specs.Dids.{AllAgree, AllTold, DidTold, Stays, Onward, Goes, Agrees}
+use Rattle.recovery_lines.specs.Ties.{IsFit, ActLines, AfterLines, rings_in}
+use Rattle.step_lines.specs.Dids.{DidTold, Stays, Onward, Goes}
 
 module _ (c : Config) (before : List Line) where
   pub Goes-refl : (a : Acting) → Goes c before a a

@@ -4,8 +4,8 @@ use Rattle.skip_leveller.specs.Levelling.{answer_of}
 use Rattle.faithful.proofs.Quorum.{appended}
 use Rattle.range_map.specs.Entries.{entries_from}
 use Rattle.mrp_types.specs.declared.value.Entry.{Entry}
-use Rattle.std.proofs.Common.{◌≡◌, ℕ, zero, suc, ◌+◌, ◌<◌, ◌≤◌, Bool, true, false, List, [], ◌∷◌, ◌++◌, Option, Some, None, refl, sym, ◌∙◌, ap, subst, slice_index, bytes_eq}
-use Rattle.std.specs.Prelude.{◌==◌, nat_eq, nat_lt, nat_le, ◌&&◌, ◌||◌, not, if◌then◌else◌, min, max, length, ◌-◌, ◌^◌}
+use Rattle.std.proofs.Common.{ℕ, zero, suc, Bool, true, false, List, [], ◌∷◌, Option, Some, None, refl, slice_index}
+use Rattle.std.specs.Prelude.{◌==◌, nat_lt, nat_le, ◌&&◌, not, if◌then◌else◌, max, length, ◌^◌}
 use Rattle.std.specs.List.{AllByRecursion}
 use Rattle.mrp_types.specs.declared.id.NodeId.{NodeId}
 use Rattle.mrp_types.specs.declared.id.ClientId.{ClientId}
@@ -15,22 +15,20 @@ use Rattle.mrp_types.specs.declared.voted.Voted.{Voted}
 use Rattle.mrp_types.specs.declared.voted.Decided.{Decided}
 use Rattle.mrp_config.specs.Config.{Config}
 use Rattle.ring_link.specs.Silence.{Link}
-use Rattle.frames.specs.declared.body.Body.{Body}
-use Rattle.frames.specs.declared.body.Body.TheVariants.{Submit, Prepare, Promise, Refuse, Accept, Decide, Fetch, Chosen, Trimmed}
-use Rattle.frames.specs.declared.sent.Sent.{Sent}
+use Rattle.frames.specs.declared.body.Body.TheVariants.{Submit, Prepare, Refuse, Accept, Decide, Chosen, Trimmed}
 use Rattle.protocol.specs.Lines.{Line, BallotLimit, InstanceLimit}
-use Rattle.protocol.specs.Parts.{Ring, Part, Role, Idle, Active, Campaign, Coordinator, Did}
+use Rattle.protocol.specs.Parts.{Ring, Part, Role, Idle, Active, Campaign, Did}
 use Rattle.protocol.specs.Rings.{sends, sends_each, owner_of, is_node, has_bit, with_bit, position_of, next_acceptor, next_member, other_acceptors}
-use Rattle.protocol.specs.Doing.{nothing_done, with_part, with_frames, with_line, with_learned, with_campaign, with_coordinator, in_role}
-use Rattle.protocol.specs.Acceptor.{promises, votes_for, trims_to, promise_of, promise_with, tells_promise, refuses, tells_trim, prepares, goes_on, accepts_at, accepts, tells_ranges, ranges_page, fetches}
+use Rattle.protocol.specs.Doing.{nothing_done, with_part, with_frames, with_line, with_learned, with_campaign, in_role}
+use Rattle.protocol.specs.Acceptor.{promises, votes_for, trims_to, promise_of, tells_promise, refuses, tells_trim, prepares, goes_on, accepts_at, accepts, tells_ranges, ranges_page, fetches}
 use Rattle.protocol.specs.Ballots.{leads_now, new_campaign, campaigns, own_ballot, Page, with_page, asks_more, counts, reported_past, reported_at, reported, greatest_seen}
 use Rattle.protocol.specs.Coordinator.{starts_with, starts_at, leads, promised, role_refused, refused, most_pending, is_pending, with_pending, passes_on, waits, submits_leading, submits_in, submits}
 use Rattle.protocol.specs.Leading.{is_to_start, starts_idle, starts_on_tick, prepares_again, accepts_again, resends_in, resends, with_tick_taken, shortfall_from, levels_by, levels_in, levels}
 use Rattle.protocol.specs.Learner.{learned_ranges, passed_on, decided, chosen}
 use Rattle.protocol.specs.Proposing.{proposes, proposes_after, offers, has_room, own_mask}
-use Rattle.protocol.specs.Trimming.{trimmed, answered_of}
+use Rattle.protocol.specs.Trimming.{trimmed}
 use Rattle.recovery_lines.specs.Ties.{IsSaid, IsCovered}
-use Rattle.step_lines.specs.Dids.{DidTold, Stays}
+use Rattle.step_lines.specs.Dids.{Stays}
 use Rattle.step_lines.proofs.Words.{ring_sends, ring_sends_each, Stays-refl, Stays-trans, stays_frames, stays_line, stays_learned, stays_coordinator, stays_votes, stays_promises, stays_trims, stays_goes_on, stays_offers, proposes_stays}
 
 module _ (c : Config) (lines : List Line) (ring : Ring) where

@@ -4,15 +4,13 @@ use Rattle.vote_state.specs.declared.ring.RingState.{RingState}
 use Rattle.step_lines.proofs.Words.{proposes_stays}
 use Rattle.step_lines.proofs.Onward.{nothing_more, Onward-trans, Onward-refl, put_rings, onward_prints, all_onward}
 use Rattle.step_lines.specs.Dids.{AllAgree, AllTold, DidTold, Onward, Stays, Goes}
-use Rattle.std.proofs.Common.{◌≡◌, ℕ, zero, suc, ◌+◌, ◌^◌, ◌<◌, ◌≤◌, ◌⊎◌, inl, inr, Bool, true, false, List, [], ◌∷◌, ◌++◌, map, Option, Some, None, refl, sym, ◌∙◌, ap, subst, arith, true≢false, one-add}
-use Rattle.std.specs.Prelude.{◌==◌, nat_eq, max, if◌then◌else◌}
+use Rattle.std.proofs.Common.{◌≡◌, ℕ, zero, suc, ◌^◌, ◌<◌, ◌≤◌, ◌⊎◌, inl, inr, Bool, true, false, List, [], ◌∷◌, ◌++◌, Option, Some, None, refl, sym, ◌∙◌, ap, subst, arith, true≢false}
+use Rattle.std.specs.Prelude.{◌==◌, max, if◌then◌else◌}
 use Rattle.std.specs.List.{AllByRecursion}
 use Rattle.std.proofs.lemmas.Bool.{cases_lt}
 use Rattle.std.proofs.lemmas.Bool.Decides.{nat_tests}
-use Rattle.mrp_types.specs.declared.id.NodeId.{NodeId}
 use Rattle.mrp_types.specs.declared.id.RingId.{RingId}
 use Rattle.mrp_types.specs.declared.value.Value.{Value}
-use Rattle.mrp_types.specs.declared.value.Value.TheVariants.{Skip, Batch}
 use Rattle.mrp_types.specs.declared.voted.Decided.{Decided}
 use Rattle.mrp_config.specs.Config.{Config}
 use Rattle.plain_model.proofs.TupleAt.{by_number}
@@ -24,12 +22,11 @@ use Rattle.protocol.specs.Parts.{Ring, Rounds, Part, Learner, Did}
 use Rattle.protocol.specs.Doing.{nothing_done}
 use Rattle.protocol.specs.Learner.{first_of, value_in, is_news, with_range_learned, learns_news, learns}
 use Rattle.protocol.specs.Proposing.{proposes}
-use Rattle.protocol.specs.Recovery.{epoch_of}
-use Rattle.protocol.specs.Node.{Acting, View, RingPart, Service, Stage, Recovering, Ready, Standing, part_in, part_at, with_part, prints}
+use Rattle.protocol.specs.Node.{Acting, RingPart, part_in, part_at, with_part, prints}
 use Rattle.protocol.specs.Learning.{with_did, Queued, queued, proposes_then, by_news, learns_one, then_learns, learns_up_to, does}
-use Rattle.protocol.specs.Merging.{value_at_place, place_of, takes_place, goes_on, merges_stage, merges_service, merges_up_to, merges}
+use Rattle.protocol.specs.Merging.{merges}
 use Rattle.faithful.specs.Scanners.{past, book}
-use Rattle.recovery_lines.specs.Ties.{IsCovered, IsFit, PartLines, CurrentLines, IsOf, ActLines, AfterLines, PartTold}
+use Rattle.recovery_lines.specs.Ties.{IsCovered, IsFit, PartLines, CurrentLines, ActLines, AfterLines, PartTold}
 use Rattle.faithful.proofs.Growing.{past_more}
 use Rattle.step_lines.proofs.Composing.{part_put, did_composed, learned_composed, did_onward, told_put}
 

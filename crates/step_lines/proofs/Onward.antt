@@ -1,5 +1,5 @@
 -- A step goes on, whatever is printed: its lines only grow, the node and its rings stay, and what was told is told.
-use Rattle.std.proofs.Common.{◌≡◌, ℕ, zero, suc, ◌+◌, Bool, true, false, List, [], ◌∷◌, ◌++◌, Option, Some, None, refl, sym, ◌∙◌, ap, subst}
+use Rattle.std.proofs.Common.{◌≡◌, ℕ, zero, suc, ◌+◌, Bool, true, false, List, [], ◌∷◌, ◌++◌, Option, Some, None, refl, ◌∙◌, ap}
 use Rattle.std.specs.Prelude.{map, ◌==◌, if◌then◌else◌, ◌^◌}
 use Rattle.std.specs.List.{AllByRecursion}
 use Rattle.mrp_types.specs.declared.id.RingId.{RingId}
@@ -7,15 +7,13 @@ use Rattle.mrp_types.specs.declared.value.Value.{Value}
 use Rattle.mrp_types.specs.declared.value.Value.TheVariants.{Skip, Batch}
 use Rattle.mrp_config.specs.Config.{Config}
 use Rattle.frames.specs.declared.sent.Sent.{Sent}
-use Rattle.vote_state.specs.State.{State, taken}
-use Rattle.plain_model.specs.Replicas.{applies}
 use Rattle.protocol.specs.Lines.{Line}
 use Rattle.protocol.specs.Parts.{Ring, Part}
 use Rattle.protocol.specs.Node.{Acting, RingPart, Service, Stage, Recovering, Ready, Standing, with_stage, prints, sends_all, with_part_in}
 use Rattle.protocol.specs.Recovery.{with_lowered, lowers}
 use Rattle.protocol.specs.Merging.{place_of, value_at_place, takes_place, goes_on, merges_stage, merges_service, merges_up_to, merges}
-use Rattle.recovery_lines.specs.Ties.{PartTold, CurrentLines, IsCovered, rings_in}
-use Rattle.step_lines.specs.Dids.{AllTold, Onward}
+use Rattle.recovery_lines.specs.Ties.{PartTold, rings_in}
+use Rattle.step_lines.specs.Dids.{Onward}
 
 pub nothing_more : (ls : List Line) → ls ≡ ls ++ []
 nothing_more [] = refl

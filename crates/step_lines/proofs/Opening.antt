@@ -2,7 +2,7 @@
 use Rattle.step_lines.proofs.Ending.{finished_left}
 use Rattle.step_lines.proofs.Recovery.{begins_onward}
 use Rattle.step_lines.proofs.Onward.{Onward-refl}
-use Rattle.std.proofs.Common.{◌≡◌, ℕ, ◌+◌, Bool, true, false, List, [], ◌∷◌, Option, Some, None, refl, sym, ◌∙◌, ap, subst, true≢false}
+use Rattle.std.proofs.Common.{◌≡◌, ℕ, ◌+◌, Bool, true, false, List, [], ◌∷◌, Option, Some, None, refl, sym, subst}
 use Rattle.std.specs.Prelude.{if◌then◌else◌}
 use Rattle.std.specs.List.{AllByRecursion}
 use Rattle.mrp_types.specs.declared.id.NodeId.{NodeId}
@@ -10,17 +10,17 @@ use Rattle.mrp_types.specs.declared.value.Value.{Value}
 use Rattle.mrp_config.specs.Config.{Config}
 use Rattle.mrp_config.specs.declared.tables.RingTable.{RingTable}
 use Rattle.mrp_config.specs.declared.tables.PartitionTable.{PartitionTable}
-use Rattle.vote_state.specs.State.{State, ring_at}
+use Rattle.vote_state.specs.State.{State}
 use Rattle.vote_journal.specs.Journal.{Journal}
 use Rattle.checkpoint.specs.Checks.{Checks}
 use Rattle.protocol.specs.Lines.{Line, Up}
 use Rattle.protocol.specs.Rings.{ring_of, is_member}
 use Rattle.protocol.specs.Opening.{partition_of, part_of_ring, parts_of, view_of, begins_first, opened}
-use Rattle.protocol.specs.Node.{Acting, View, RingPart, Service, Recovering, Stepped, begun_with, finished}
-use Rattle.protocol.specs.Recovery.{begins_next, begins}
+use Rattle.protocol.specs.Node.{Acting, Service, Recovering, begun_with, finished}
+use Rattle.protocol.specs.Recovery.{begins}
 use Rattle.faithful.specs.Rules.{AreFaithful}
-use Rattle.recovery_lines.specs.Ties.{IsFit, IsPlaced, AreCovered, PartTold, PartLines, KnownLines, KeptLines, OwnLines, ActLines, DoneLines, AfterLines, StepLines, rings_in}
-use Rattle.recovery_lines.proofs.More.{KnownLines-more, KeptLines-same}
+use Rattle.recovery_lines.specs.Ties.{IsFit, IsPlaced, AreCovered, PartTold, PartLines, KnownLines, KeptLines, OwnLines, DoneLines, AfterLines, StepLines, rings_in}
+use Rattle.recovery_lines.proofs.More.{KnownLines-more}
 use Rattle.recovery_lines.proofs.Beginning.{next_begins}
 use Rattle.recovery_lines.proofs.Merging.{merged_all}
 use Rattle.recovery_lines.proofs.Saving.{own_opened}
@@ -101,9 +101,11 @@ module _ (c : Config) (fit : IsFit c) (lines : List Line) (id : NodeId) (journal
       finish : (o : Option PartitionTable) → AfterLines c (Up id (epoch + 1) ∷ lines) (begins_first c o (begun_with (view_of c id journal checks)))
           → (new : List Line) × StepLines c (Up id (epoch + 1) ∷ lines) new id (finished (begins_first c o (begun_with (view_of c id journal checks))))
       finish o after =
-          let b : Acting = begins_first c o (begun_with (view_of c id journal checks)) in
-          (after.lines, subst (λ (x : NodeId). StepLines c (Up id (epoch + 1) ∷ lines) after.lines x (finished b)) (on o).id
-          (finished_lines c (Up id (epoch + 1) ∷ lines) after.lines b after.ties ((on o).told (told_now covered)).epoch))
+          let b : Acting = begins_first c o (begun_with (view_of c id journal checks)) in (
+            after.lines,
+            subst (λ (x : NodeId). StepLines c (Up id (epoch + 1) ∷ lines) after.lines x (finished b)) (on o).id
+                (finished_lines c (Up id (epoch + 1) ∷ lines) after.lines b after.ties ((on o).told (told_now covered)).epoch),
+          )
 
       by_partition : (o : Option PartitionTable) → partition_of c.partitions id ≡ o → KeptFor c lines id epoch checks.newest o
           → (new : List Line) × StepLines c (Up id (epoch + 1) ∷ lines) new id (finished (begins_first c o (begun_with (view_of c id journal checks))))

@@ -1,8 +1,8 @@
 -- The words of recovery go on, whatever they print.
 use Rattle.frames.specs.declared.sent.Sent.{Sent}
 use Rattle.protocol.specs.Trimming.{has_answered}
-use Rattle.std.proofs.Common.{◌≡◌, ℕ, zero, suc, ◌+◌, Bool, true, false, List, [], ◌∷◌, ◌++◌, Option, Some, None, refl, set}
-use Rattle.std.specs.Prelude.{◌==◌, nat_lt, nat_le, ◌&&◌, ◌||◌, not, if◌then◌else◌, length, ◌^◌, ◌-◌}
+use Rattle.std.proofs.Common.{ℕ, ◌+◌, Bool, true, false, List, [], ◌∷◌, ◌++◌, Option, Some, None}
+use Rattle.std.specs.Prelude.{◌==◌, nat_lt, nat_le, ◌&&◌, not, if◌then◌else◌, length, ◌^◌, ◌-◌}
 use Rattle.std.specs.List.{flat_map}
 use Rattle.mrp_types.specs.declared.id.NodeId.{NodeId}
 use Rattle.mrp_types.specs.declared.id.RingId.{RingId}
@@ -12,8 +12,8 @@ use Rattle.plain_model.specs.Replicas.{Replica}
 use Rattle.plain_model.specs.StateBytes.{state_of}
 use Rattle.plain_model.specs.Tuples.{round_sizes, is_tuple_of, instances, first_tuple}
 use Rattle.protocol.specs.Lines.{Line, Begin, Chose, Restore, Refuse, AttemptLimit}
-use Rattle.protocol.specs.Node.{Acting, Service, Stage, Recovering, Ready, Standing, Attempt, Choice, with_stage, prints, sends_all}
-use Rattle.protocol.specs.Recovery.{epoch_of, own_tuple, others_of, lowers, restores, restores_read, installs_own, best_of, asks_part, gathers, chooses, chooses_best, chooses_if_quorum, asks_checkpoint, begins_next, begins, is_of, takes_answer, answered_by, is_of_choice, restores_or_begins, with_more, part_for, takes_part, gone_for, takes_gone, asks_missing, ends_attempt, ticks_attempt, recovery_ticks, tells_checkpoint, tells_part}
+use Rattle.protocol.specs.Node.{Acting, Service, Stage, Recovering, Ready, Attempt, Choice, with_stage, prints, sends_all}
+use Rattle.protocol.specs.Recovery.{epoch_of, own_tuple, others_of, lowers, restores, restores_read, installs_own, best_of, asks_part, gathers, chooses, chooses_best, chooses_if_quorum, asks_checkpoint, begins_next, begins, is_of, takes_answer, answered_by, is_of_choice, restores_or_begins, with_more, part_for, takes_part, gone_for, takes_gone, asks_missing, ends_attempt, recovery_ticks, tells_part}
 use Rattle.protocol.specs.Merging.{merges, place_of}
 use Rattle.protocol.specs.Step.{behind, after_trim, begins_if_behind, waits_below}
 use Rattle.step_lines.specs.Dids.{Onward}

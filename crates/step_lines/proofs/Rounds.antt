@@ -1,38 +1,26 @@
 -- A round of trimming that ends: what it makes a trim line was told by each subscribed partition's trim quorum.
 use Rattle.protocol.specs.Ballots.{role_leads}
 use Rattle.step_lines.specs.Dids.{Stays}
-use Rattle.std.proofs.Common.{◌≡◌, ℕ, zero, suc, ◌+◌, ◌<◌, ◌≤◌, ◌⊎◌, inl, inr, Bool, true, false, List, [], ◌∷◌, ◌++◌, Option, Some, None, refl, sym, ◌∙◌, ap, subst, arith, true≢false, le_refl, le_trans}
-use Rattle.std.specs.Prelude.{◌==◌, nat_eq, nat_lt, nat_le, ◌&&◌, ◌||◌, not, if◌then◌else◌, min, count_by, length, ◌-◌, count_ones}
-use Rattle.std.specs.List.{AllByRecursion, flat_map}
+use Rattle.std.proofs.Common.{◌≡◌, ℕ, suc, ◌<◌, ◌≤◌, inl, inr, Bool, true, false, List, [], ◌∷◌, ◌++◌, Option, Some, None, refl, sym, subst, arith, true≢false, le_refl, le_trans}
+use Rattle.std.specs.Prelude.{◌==◌, nat_lt, nat_le, ◌&&◌, not, if◌then◌else◌, min}
+use Rattle.std.specs.List.{AllByRecursion}
 use Rattle.std.proofs.lemmas.Bool.Decides.{nat_tests}
 use Rattle.mrp_types.specs.declared.id.NodeId.{NodeId}
-use Rattle.mrp_types.specs.declared.id.RingId.{RingId}
-use Rattle.mrp_types.specs.declared.id.TheConstants.{END}
-use Rattle.mrp_types.specs.declared.voted.Voted.{Voted}
-use Rattle.mrp_types.specs.declared.voted.Decided.{Decided}
 use Rattle.mrp_config.specs.Config.{Config, has_node}
 use Rattle.mrp_config.specs.declared.tables.PartitionTable.{PartitionTable}
 use Rattle.quorums.specs.Groups.{Has}
-use Rattle.vote_state.specs.Ranges.{are_held}
-use Rattle.vote_state.specs.declared.change.Change.TheVariants as changes
-use Rattle.vote_state.specs.declared.change.Change.{Change}
-use Rattle.vote_state.specs.State.{State, taken, changed, with_vote, with_trim}
 use Rattle.ring_link.specs.Silence.{Link}
-use Rattle.frames.specs.declared.body.Body.{Body}
-use Rattle.frames.specs.declared.body.Body.TheVariants.{Accept, Decide, AskSafe, TrimTo}
-use Rattle.frames.specs.declared.sent.Sent.{Sent}
+use Rattle.frames.specs.declared.body.Body.TheVariants.{AskSafe, TrimTo}
 use Rattle.plain_model.proofs.TupleOrder.{split_and}
 use Rattle.protocol.specs.Lines.{Line, Trim}
-use Rattle.protocol.specs.Parts.{Ring, Round, Rounds, Part, Role, Idle, Active, Campaign, Did}
-use Rattle.protocol.specs.Rings.{sends, sends_to, sends_each, sent_by, is_beyond, subscribers_of, other_acceptors, replicas_of, by_id, is_subscribed, majority_of, next_acceptor, next_member}
-use Rattle.protocol.specs.Doing.{nothing_done, with_part, with_frames, with_line, with_change, with_kept, with_learned, with_rounds}
-use Rattle.protocol.specs.Acceptor.{votes_for, trims_to, goes_on, decides, first_decide}
-use Rattle.protocol.specs.Learner.{without_finished, decided_of}
-use Rattle.protocol.specs.Proposing.{Choice, Rests, Offers, choice, offers, own_mask, vote_of, after_offer, Turn, Stops, Proposes, turn_by, turn_with, turn_in, turn_of, advanced, proposing, proposes_after}
-use Rattle.protocol.specs.Trimming.{has_answered, answered_of, have_quorums, least_of, above, least_above_last, least_where, is_answered, least, with_answer, in_round, trims_all, trims_above, ends_by, goes_on_round, with_own_answer, next_round, with_asked, asks, answers_in, answers, asks_round, with_current}
-use Rattle.faithful.specs.Scanners.{told, entry_of, some_reaches}
+use Rattle.protocol.specs.Parts.{Ring, Round, Part, Did}
+use Rattle.protocol.specs.Rings.{sends_each, subscribers_of, other_acceptors, replicas_of, by_id, is_subscribed}
+use Rattle.protocol.specs.Doing.{nothing_done, with_part, with_frames, with_line}
+use Rattle.protocol.specs.Acceptor.{trims_to}
+use Rattle.protocol.specs.Trimming.{has_answered, answered_of, have_quorums, least_of, least_above_last, least_where, is_answered, least, with_answer, in_round, trims_all, trims_above, ends_by, goes_on_round, with_own_answer, next_round, with_asked, asks, answers_in, answers, asks_round, with_current}
+use Rattle.faithful.specs.Scanners.{told, some_reaches}
 use Rattle.faithful.specs.Rules.{HaveTold, AllHaveTold}
-use Rattle.recovery_lines.specs.Ties.{IsSafe, IsSaid, BodySaid, RoundLines, CurrentLines}
+use Rattle.recovery_lines.specs.Ties.{IsSafe, RoundLines, CurrentLines}
 use Rattle.faithful.proofs.Quorum.{appended, different_count, different_more, some_reaches_is, is_some_reaches}
 use Rattle.recovery_lines.proofs.Hearing.{by_test}
 use Rattle.step_lines.proofs.Words.{ring_sends_each, Stays-refl, Stays-trans, stays_frames, stays_line, stays_rounds, stays_trims, proposes_stays}
@@ -56,10 +44,11 @@ module _ (c : Config) (lines : List Line) where
         → (ps : List PartitionTable) → ((p : PartitionTable) → Has ps p → Has (subscribers_of c.partitions ring.id) p) → have_quorums ps answers ≡ true → AllByRecursion (HaveTold lines ring.id inst) ps
     quorums_told inst answers some low round [] sub h = tt
     quorums_told inst answers some low round (p ∷ ps) sub h =
-        let s = split_and (nat_le p.trim_quorum (answered_of p answers)) (have_quorums ps answers) h in
-        (le_trans (at_most p.trim_quorum (answered_of p answers) s.0)
-        (different_count p.replicas (λ n. some_reaches p.rings ring.id inst (told n lines)) answers round.different (each answers low round.safe)),
-        quorums_told inst answers some low round ps (λ q has. sub q (inr has)) s.1)
+        let s = split_and (nat_le p.trim_quorum (answered_of p answers)) (have_quorums ps answers) h in (
+          le_trans (at_most p.trim_quorum (answered_of p answers) s.0)
+              (different_count p.replicas (λ n. some_reaches p.rings ring.id inst (told n lines)) answers round.different (each answers low round.safe)),
+          quorums_told inst answers some low round ps (λ q has. sub q (inr has)) s.1,
+        )
       where
         at_most : (i j : ℕ) → nat_le i j ≡ true → i ≤ j
         at_most i j h = grind (arith, nat_tests)
@@ -68,8 +57,8 @@ module _ (c : Config) (lines : List Line) where
         one answer le safe replica = elim (safe p (sub p (inl refl)) replica) [
           | inl none ↦ absurd (omega (arith, none))
           | inr reaches ↦
-            let r = some_reaches_is p.rings ring.id answer.1 (told answer.0.0 lines) reaches in
-            is_some_reaches p.rings ring.id inst (told answer.0.0 lines) (record { tuple = r.tuple; there = r.there; reaches = le_trans le r.reaches })
+              let r = some_reaches_is p.rings ring.id answer.1 (told answer.0.0 lines) reaches in
+              is_some_reaches p.rings ring.id inst (told answer.0.0 lines) (record { tuple = r.tuple; there = r.there; reaches = le_trans le r.reaches })
         ]
 
         each : (ys : List (NodeId × ℕ)) → AllByRecursion (λ (answer : NodeId × ℕ). inst ≤ answer.1) ys → AllByRecursion (IsSafe c lines ring.id) ys
@@ -170,11 +159,11 @@ module _ (c : Config) (lines : List Line) where
     unfolding asks_round
     asks_stays link part own_safe safe = by_test (Stays c lines ring.id (nothing_done part)) (role_leads ring part.coordinator.role) (asks ring link part own_safe) (nothing_done part)
         (λ e. Stays-trans c lines ring.id (nothing_done part) asked (asks ring link part own_safe)
-          (Stays-trans c lines ring.id (nothing_done part) (nothing_done (with_asked part)) asked
-          (stays_rounds c lines ring.id (nothing_done part) (record { asked = suc part.rounds.asked; current = None }) tt)
-          (stays_frames c lines ring.id (nothing_done (with_asked part)) (sends_each ring (by_id (replicas_of ring.subscribers)) (AskSafe ring.id (suc part.rounds.asked)))
-          (λ t. ring_sends_each c lines ring (by_id (replicas_of ring.subscribers)) (AskSafe ring.id (suc part.rounds.asked)) (λ node. tt))))
-          (ends_stays link (with_own_answer ring own_safe (next_round part)) asked (by_own own_safe refl)))
+        (Stays-trans c lines ring.id (nothing_done part) (nothing_done (with_asked part)) asked
+        (stays_rounds c lines ring.id (nothing_done part) (record { asked = suc part.rounds.asked; current = None }) tt)
+        (stays_frames c lines ring.id (nothing_done (with_asked part)) (sends_each ring (by_id (replicas_of ring.subscribers)) (AskSafe ring.id (suc part.rounds.asked)))
+        (λ t. ring_sends_each c lines ring (by_id (replicas_of ring.subscribers)) (AskSafe ring.id (suc part.rounds.asked)) (λ node. tt))))
+        (ends_stays link (with_own_answer ring own_safe (next_round part)) asked (by_own own_safe refl)))
         (Stays-refl c lines ring.id (nothing_done part))
       where
         asked : Did

@@ -24,8 +24,8 @@ use Rattle.mrp_types.specs.declared.id.NodeId.{NodeId}
 use Rattle.quorums.specs.Groups.{Has}
 use Rattle.step_lines.proofs.Going.{Goes-refl, Goes-trans, goes_so, if_goes, part_goes, part_placed, part_ring}
 use Rattle.protocol.specs.Parts.{Did, Part, Ring}
-use Rattle.std.proofs.Common.{◌≡◌, ℕ, ◌⊎◌, inl, inr, Bool, true, false, List, [], ◌∷◌, ◌++◌, Option, Some, None, refl, sym, ◌∙◌, ap, subst}
-use Rattle.std.specs.Prelude.{◌==◌, ◌%◌, ◌/◌, ◌&&◌, map, if◌then◌else◌, filter}
+use Rattle.std.proofs.Common.{◌≡◌, ℕ, ◌⊎◌, Bool, true, false, List, [], ◌∷◌, Option, Some, None, refl, sym, ◌∙◌, ap, subst}
+use Rattle.std.specs.Prelude.{◌==◌, ◌%◌, ◌/◌, ◌&&◌, if◌then◌else◌, filter}
 use Rattle.std.specs.List.{AllByRecursion, flat_map}
 use Rattle.mrp_config.specs.Config.{Config, has_ring}
 use Rattle.mrp_config.specs.declared.tables.PartitionTable.{PartitionTable}
@@ -34,10 +34,10 @@ use Rattle.checkpoint.specs.Checks.{Checkpoint, Checks}
 use Rattle.frames.specs.declared.body.Body.TheVariants.{Fetch, Hello}
 use Rattle.protocol.specs.Lines.{Line}
 use Rattle.protocol.specs.Opening.{partition_of}
-use Rattle.protocol.specs.Tick.{rules_at, rules_for, ticks_ring, ticks_rings, turn_of, fetches_at, fetches_place, fetches_stage, fetches_missing, shares_ring, greets, recovery_ticks_at, asks_on_beat, beats_with}
-use Rattle.protocol.specs.Node.{Acting, View, RingPart, Service, Stage, Recovering, Ready, part_in, part_at, sends_all}
+use Rattle.protocol.specs.Tick.{rules_at, rules_for, ticks_ring, ticks_rings, turn_of, fetches_at, fetches_stage, fetches_missing, shares_ring, recovery_ticks_at, asks_on_beat, beats_with}
+use Rattle.protocol.specs.Node.{Acting, View, RingPart, Service, Stage, Recovering, Ready, part_at, sends_all}
 use Rattle.recovery_lines.specs.Ties.{IsFit, IsPlaced, IsSafe, IsSaid, ReplicaLines, ActLines, AfterLines, newest_of, rings_in}
-use Rattle.step_lines.specs.Dids.{AllAgree, AllTold, DidTold, Stays, Onward, Goes}
+use Rattle.step_lines.specs.Dids.{DidTold, Stays, Onward, Goes}
 
 -- the own newest tuple was told before the step, where the node is a replica
 pub record OwnTold (c : Config) (lines : List Line) (x : NodeId) (newest : Option Checkpoint) (p : PartitionTable) : Type 0 where
@@ -108,10 +108,10 @@ module _ (c : Config) (fit : IsFit c) (before : List Line) (a : Acting) (placed 
       ask = fun_goes trims (rules_for c ring (λ r part view. asks_round r view.link part (safe_of view ring view.service))) resent
           (rule_goes_at ring resent (λ r part view. asks_round r view.link part (safe_of view ring view.service))
           (λ p e t.
-            let at : IsPlaced c a.view.id p.ring = part_placed (IsPlaced c a.view.id) resent.view.parts ring p rings_there e in
-            asks_stays c before p.ring at.subscribers resent.view.link p.part (safe_of resent.view ring resent.view.service)
-            (λ inst f. subst (λ (x : NodeId). IsSafe c before p.ring.id (x, inst)) (sym at.own)
-            (subst (λ (r : RingId). IsSafe c before r (a.view.id, inst)) (sym (part_ring resent.view.parts ring p e)) (safe_here ring resent here inst f)))))
+          let at : IsPlaced c a.view.id p.ring = part_placed (IsPlaced c a.view.id) resent.view.parts ring p rings_there e in
+          asks_stays c before p.ring at.subscribers resent.view.link p.part (safe_of resent.view ring resent.view.service)
+          (λ inst f. subst (λ (x : NodeId). IsSafe c before p.ring.id (x, inst)) (sym at.own)
+          (subst (λ (r : RingId). IsSafe c before r (a.view.id, inst)) (sym (part_ring resent.view.parts ring p e)) (safe_here ring resent here inst f)))))
 
   rings_goes : (again trims : Bool) (parts : List RingPart) (b : Acting) → Onward c before a b → Goes c before b (ticks_rings c again trims parts b)
   rings_goes again trims [] b on = Goes-refl c before b

@@ -8,27 +8,25 @@ use Rattle.step_lines.proofs.Bodies.{body_goes, submit_goes}
 use Rattle.step_lines.proofs.Ticks.{beats_goes}
 use Rattle.recovery_lines.proofs.Saving.{SavedOr, kept_saved, saves_lines}
 use Rattle.mrp_types.specs.declared.id.Party.{Party}
-use Rattle.mrp_types.specs.declared.id.NodeId.{NodeId}
 use Rattle.ring_link.specs.Silence.{Link, with_heard, with_tick}
 use Rattle.step_lines.proofs.Going.{Goes-refl, acceptor_goes}
 use Rattle.mrp_types.specs.declared.id.Party.TheVariants.{Client, Node}
-use Rattle.std.proofs.Common.{◌≡◌, ℕ, ◌+◌, ◌⊎◌, inl, inr, Bool, true, false, List, [], ◌∷◌, ◌++◌, Option, Some, None, refl, sym, ◌∙◌, ap, subst}
-use Rattle.std.specs.Prelude.{◌==◌, ◌%◌, ◌/◌, ◌&&◌, map, if◌then◌else◌}
+use Rattle.std.proofs.Common.{◌≡◌, ℕ, ◌+◌, Bool, true, false, List, Option, Some, None, refl, sym, ◌∙◌, subst}
+use Rattle.std.specs.Prelude.{◌==◌, ◌%◌, if◌then◌else◌}
 use Rattle.std.specs.List.{AllByRecursion}
 use Rattle.mrp_config.specs.Config.{Config}
 use Rattle.mrp_config.specs.declared.tables.PartitionTable.{PartitionTable}
-use Rattle.checkpoint.specs.Checks.{Checkpoint}
 use Rattle.frames.specs.declared.body.Body.{Body}
 use Rattle.frames.specs.declared.body.Body.TheVariants.{Submit}
 use Rattle.protocol.specs.Lines.{Line}
 use Rattle.protocol.specs.Opening.{partition_of}
 use Rattle.step_lines.proofs.Ticks.{OwnTold}
-use Rattle.protocol.specs.Node.{Acting, View, RingPart, Service, Stage, Recovering, Ready, Standing, Event, Ticks, Takes, Leads, Stepped, begun_with, finished, part_at}
-use Rattle.protocol.specs.Step.{takes_from, takes_body, at_acceptor, step}
-use Rattle.protocol.specs.Tick.{is_due_to_compact, compacts, saves, saves_stage, saves_first, or_compacts, beats, ticks, beats_with, is_due_to_save}
+use Rattle.protocol.specs.Node.{Acting, View, Service, Stage, Recovering, Ready, Standing, Event, Ticks, Takes, Leads, Stepped, begun_with, finished}
+use Rattle.protocol.specs.Step.{takes_from, step}
+use Rattle.protocol.specs.Tick.{is_due_to_compact, compacts, saves, saves_stage, saves_first, or_compacts, beats, ticks, is_due_to_save}
 use Rattle.faithful.specs.Scanners.{past}
-use Rattle.recovery_lines.specs.Ties.{IsFit, IsPlaced, PartySaid, PartTold, ReplicaLines, StageLines, ServiceLines, ReadyLines, ActLines, StepLines, ViewLines, rings_in, AreCovered, OwnLines}
-use Rattle.step_lines.specs.Dids.{EventSaid, AllAgree, AllTold, DidTold, Stays, Onward, Goes, KeptFor, LeftTold}
+use Rattle.recovery_lines.specs.Ties.{IsFit, IsPlaced, PartySaid, PartTold, ReplicaLines, StageLines, ReadyLines, ActLines, StepLines, ViewLines, rings_in, AreCovered, OwnLines}
+use Rattle.step_lines.specs.Dids.{EventSaid, AllAgree, AllTold, Goes, KeptFor, LeftTold}
 
 module _ (c : Config) (fit : IsFit c) (lines : List Line) (view : View) (ties : ViewLines c lines view) (placed : AllByRecursion (IsPlaced c view.id) (rings_in view.parts))
     (parts : AllByRecursion (PartTold c lines) view.parts) (covered : AreCovered c lines view.journal.state) where

@@ -3,39 +3,32 @@ use Rattle.plain_model.proofs.TupleAt.{by_number}
 use Rattle.vote_state.specs.declared.ring.RingState.{RingState}
 use Rattle.recovery_lines.proofs.Printing.{said_sends}
 use Rattle.step_lines.specs.Dids.{Stays, IsPlain, DidTold}
-use Rattle.std.proofs.Common.{◌≡◌, ℕ, zero, suc, ◌+◌, ◌<◌, ◌≤◌, ◌⊎◌, inl, inr, Bool, true, false, List, [], ◌∷◌, ◌++◌, Option, Some, None, refl, sym, ◌∙◌, ap, subst, arith, true≢false, le_refl, le_trans, slice_index_or, slice_set}
-use Rattle.std.specs.Prelude.{◌==◌, nat_eq, nat_lt, nat_le, ◌&&◌, ◌||◌, not, if◌then◌else◌, min, count_by, length, ◌-◌, count_ones}
-use Rattle.std.specs.List.{AllByRecursion, flat_map}
-use Rattle.std.proofs.lemmas.Bool.Decides.{nat_tests}
+use Rattle.std.proofs.Common.{◌≡◌, ℕ, zero, suc, ◌⊎◌, inl, inr, List, [], ◌∷◌, ◌++◌, Option, Some, None, refl, sym, ◌∙◌, ap, subst, slice_index_or, slice_set}
+use Rattle.std.specs.Prelude.{◌==◌, nat_le, length, ◌-◌, count_ones}
+use Rattle.std.specs.List.{AllByRecursion}
 use Rattle.mrp_types.specs.declared.id.NodeId.{NodeId}
 use Rattle.mrp_types.specs.declared.id.RingId.{RingId}
 use Rattle.mrp_types.specs.declared.id.TheConstants.{END}
 use Rattle.mrp_types.specs.declared.voted.Voted.{Voted}
 use Rattle.mrp_types.specs.declared.voted.Decided.{Decided}
-use Rattle.mrp_config.specs.Config.{Config, has_node}
-use Rattle.mrp_config.specs.declared.tables.PartitionTable.{PartitionTable}
-use Rattle.quorums.specs.Groups.{Has}
+use Rattle.mrp_config.specs.Config.{Config}
 use Rattle.vote_state.specs.Ranges.{are_held}
 use Rattle.vote_state.specs.declared.change.Change.TheVariants as changes
 use Rattle.vote_state.specs.declared.change.Change.{Change}
 use Rattle.vote_state.specs.State.{State, ring_at, taken, changed, with_vote, with_trim, with_ring, with_promise, no_votes}
 use Rattle.ring_link.specs.Silence.{Link}
 use Rattle.frames.specs.declared.body.Body.{Body}
-use Rattle.frames.specs.declared.body.Body.TheVariants.{Accept, Decide, AskSafe, TrimTo}
+use Rattle.frames.specs.declared.body.Body.TheVariants.{Accept, Decide}
 use Rattle.frames.specs.declared.sent.Sent.{Sent}
-use Rattle.plain_model.proofs.TupleOrder.{split_and}
-use Rattle.protocol.specs.Lines.{Line, Trim}
-use Rattle.protocol.specs.Parts.{Ring, Round, Rounds, Part, Role, Idle, Active, Campaign, Did, Coordinator}
-use Rattle.protocol.specs.Rings.{sends, sends_to, sends_each, sent_by, is_beyond, subscribers_of, other_acceptors, replicas_of, by_id, is_subscribed, majority_of, next_acceptor, next_member}
-use Rattle.protocol.specs.Doing.{nothing_done, with_part, with_frames, with_line, with_change, with_kept, with_learned, with_rounds, in_role, with_campaign, with_coordinator}
+use Rattle.protocol.specs.Lines.{Line}
+use Rattle.protocol.specs.Parts.{Ring, Rounds, Role, Idle, Active, Campaign, Did, Coordinator}
+use Rattle.protocol.specs.Rings.{sends, sends_each, majority_of, next_acceptor, next_member}
+use Rattle.protocol.specs.Doing.{with_part, with_frames, with_line, with_change, with_kept, with_learned, with_rounds, in_role, with_campaign, with_coordinator}
 use Rattle.protocol.specs.Acceptor.{votes_for, trims_to, goes_on, decides, first_decide, promises, promised_part}
 use Rattle.protocol.specs.Learner.{without_finished, decided_of}
-use Rattle.protocol.specs.Proposing.{Choice, Rests, Offers, choice, offers, own_mask, vote_of, after_offer, Turn, Stops, Proposes, turn_by, turn_with, turn_in, turn_of, advanced, proposing, proposes_after}
-use Rattle.protocol.specs.Trimming.{has_answered, answered_of, have_quorums, least_of, above, least_above_last, least_where, is_answered, least, with_answer, in_round, trims_all, trims_above, ends_by, goes_on_round, with_own_answer, next_round, with_asked, asks, answers_in, answers}
-use Rattle.faithful.specs.Scanners.{told, entry_of, some_reaches}
-use Rattle.faithful.specs.Rules.{HaveTold, AllHaveTold}
-use Rattle.recovery_lines.specs.Ties.{IsSafe, IsSaid, BodySaid, RoundLines, CurrentLines, IsCovered, AreCovered}
-use Rattle.faithful.proofs.Quorum.{appended, different_count, different_more, some_reaches_is, is_some_reaches}
+use Rattle.protocol.specs.Proposing.{Choice, Rests, Offers, choice, offers, own_mask, vote_of, after_offer, Turn, Stops, Proposes, turn_by, turn_in, turn_of, advanced, proposing, proposes_after}
+use Rattle.recovery_lines.specs.Ties.{IsSaid, BodySaid, CurrentLines, IsCovered, AreCovered}
+use Rattle.faithful.proofs.Quorum.{appended}
 use Rattle.recovery_lines.proofs.Hearing.{by_test}
 
 set_at : (xs : List RingState) (i j : ℕ) (r none : RingState) → (slice_index_or (slice_set xs i r) j none ≡ slice_index_or xs j none) ⊎ ((i ≡ j) × (slice_index_or (slice_set xs i r) j none ≡ r))
@@ -153,11 +146,11 @@ module _ (c : Config) (lines : List Line) (ring : Ring) where
       by_test (Stays c lines ring.id did) (nat_le (majority_of ring) (count_ones mask)) (decides ring link (decided_of vote) did)
       (with_frames (sends ring (next_acceptor ring link) (Accept ring.id vote.ballot vote.lo vote.hi mask vote.value)) did)
       (λ e. Stays-trans c lines ring.id did (with_frames (first_decide ring link (decided_of vote)) did) (decides ring link (decided_of vote) did)
-        (stays_frames c lines ring.id did (first_decide ring link (decided_of vote))
-        (λ t. by_test (AllByRecursion (IsSaid c lines)) (nat_le 2 (length ring.members))
-        (sends ring (next_member ring link) (Decide ring.id vote.lo vote.hi (length ring.members - 2) vote.value)) []
-        (λ q. ring_sends c lines ring (next_member ring link) (Decide ring.id vote.lo vote.hi (length ring.members - 2) vote.value) (λ node. tt)) tt))
-        (stays_learned c lines ring.id (with_frames (first_decide ring link (decided_of vote)) did) (decided_of vote)))
+      (stays_frames c lines ring.id did (first_decide ring link (decided_of vote))
+      (λ t. by_test (AllByRecursion (IsSaid c lines)) (nat_le 2 (length ring.members))
+      (sends ring (next_member ring link) (Decide ring.id vote.lo vote.hi (length ring.members - 2) vote.value)) []
+      (λ q. ring_sends c lines ring (next_member ring link) (Decide ring.id vote.lo vote.hi (length ring.members - 2) vote.value) (λ node. tt)) tt))
+      (stays_learned c lines ring.id (with_frames (first_decide ring link (decided_of vote)) did) (decided_of vote)))
       (stays_frames c lines ring.id did (sends ring (next_acceptor ring link) (Accept ring.id vote.ballot vote.lo vote.hi mask vote.value))
       (λ t. ring_sends c lines ring (next_acceptor ring link) (Accept ring.id vote.ballot vote.lo vote.hi mask vote.value) (λ node. tt)))
 
