@@ -2,7 +2,7 @@
 use Rattle.mrp_types.specs.declared.id.NodeId.{NodeId}
 use Rattle.command_codec.specs.declared.command.Command.{Command}
 use Rattle.mrp_types.specs.declared.id.ClientId.{ClientId}
-use Rattle.std.proofs.Common.{◌≡◌, ℕ, zero, suc, ◌+◌, ◌<◌, List, [], ◌∷◌, ◌++◌, Option, Some, None, refl, sym, ap, subst, arith, false, inl, inr}
+use Rattle.std.proofs.Common.{◌≡◌, ℕ, zero, suc, ◌+◌, ◌<◌, ◌≤◌, List, [], ◌∷◌, ◌++◌, Option, Some, None, refl, sym, ap, subst, arith, false, inl, inr}
 use Rattle.std.specs.Prelude.{slice_get}
 use Rattle.std.specs.List.{AllByRecursion}
 use Rattle.mrp_types.specs.declared.id.Party.{Party}
@@ -30,6 +30,9 @@ get_has [] n s e = absurd (cc)
 get_has (x ∷ xs) zero s e = let same : x ≡ s = cc in inl (sym same)
 get_has (x ∷ xs) (suc n) s e = inr (get_has xs n s e)
 
+no_newest : (o : Option Checkpoint) (newest : Checkpoint) → o ≡ Some newest → o ≡ None → ⊥
+no_newest o newest a b = cc
+
 module _ (c : Config) (w : World) where
   opened : (id : NodeId) (host : Host) → w.hosts id.0 ≡ host → AllByRecursion (MayHappen c w) (opens_host c id host)
   opened id (Up view) e = tt
@@ -43,11 +46,9 @@ module _ (c : Config) (w : World) where
         epoch = refl;
         rings = refl;
         newest = refl;
-        readable = λ p newest there some. absurd (no_newest newest some n);
+        readable = λ p newest there some. absurd (no_newest durable.newest newest some n);
       }), tt)
 
-      no_newest : (newest : Checkpoint) → durable.newest ≡ Some newest → durable.newest ≡ None → ⊥
-      no_newest newest a b = absurd (cc)
 
   taken : (o : Option Sent) (cursor : ℕ) → slice_get w.frames cursor ≡ o → AllByRecursion (MayHappen c w) (taken_next c o)
   taken None cursor e = tt
