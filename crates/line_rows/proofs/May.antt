@@ -2,7 +2,7 @@
 use Rattle.mrp_types.specs.declared.id.NodeId.{NodeId}
 use Rattle.command_codec.specs.declared.command.Command.{Command}
 use Rattle.mrp_types.specs.declared.id.ClientId.{ClientId}
-use Rattle.std.proofs.Common.{◌≡◌, ℕ, zero, suc, ◌+◌, ◌<◌, ◌≤◌, List, [], ◌∷◌, ◌++◌, Option, Some, None, refl, sym, ap, subst, arith, false, inl, inr}
+use Rattle.std.proofs.Common.{◌≡◌, ℕ, zero, suc, ◌<◌, ◌≤◌, List, [], ◌∷◌, Option, Some, None, refl, sym, subst, arith, false, inl, inr}
 use Rattle.std.specs.Prelude.{slice_get}
 use Rattle.std.specs.List.{AllByRecursion}
 use Rattle.mrp_types.specs.declared.id.Party.{Party}
@@ -14,7 +14,7 @@ use Rattle.command_codec.specs.Valid.{IsCommand}
 use Rattle.frames.specs.declared.sent.Sent.{Sent}
 use Rattle.quorums.specs.Groups.{Has}
 use Rattle.checkpoint.specs.Checks.{Checkpoint}
-use Rattle.bare_world.specs.Worlds.{Possible, Host, Up, Down, World, Happening, nothing, happens}
+use Rattle.bare_world.specs.Worlds.{Host, Up, Down, World, Happening, nothing, happens}
 use Rattle.bare_world.specs.Runs.{MayHappen, MayRun, MayOpenAt}
 use Rattle.line_rows.specs.Moves.{checks_of, Move, Open, Next, Tick, Lead, Ask, Fall, opens_with, opens_host, taken_by, client_of, taken_next, asked_by, happenings_of, moved_on, with_happening, happenings, journal_of}
 use Rattle.line_rows.specs.Row.{config, moves}
@@ -41,14 +41,16 @@ module _ (c : Config) (w : World) where
       by_table : (o : Option NodeTable) → node_at c.nodes id.0 ≡ o → (newest : Option Checkpoint) → durable.newest ≡ newest → AllByRecursion (MayHappen c w) (opens_with id o durable newest)
       by_table None t newest n = tt
       by_table (Some table) t (Some newest) n = tt
-      by_table (Some table) t None n = (subst (λ (host : Host). MayOpenAt c id false (journal_of id durable) (checks_of durable) host) (sym e) (record {
-        node = (table, t);
-        epoch = refl;
-        rings = refl;
-        newest = refl;
-        readable = λ p newest there some. absurd (no_newest durable.newest newest some n);
-      }), tt)
-
+      by_table (Some table) t None n = (
+        subst (λ (host : Host). MayOpenAt c id false (journal_of id durable) (checks_of durable) host) (sym e) (record {
+          node = (table, t);
+          epoch = refl;
+          rings = refl;
+          newest = refl;
+          readable = λ p newest there some. absurd (no_newest durable.newest newest some n);
+        }),
+        tt,
+      )
 
   taken : (o : Option Sent) (cursor : ℕ) → slice_get w.frames cursor ≡ o → AllByRecursion (MayHappen c w) (taken_next c o)
   taken None cursor e = tt

@@ -1,5 +1,5 @@
 -- Runs told by short moves: which frame is taken next, which node has a tick, crashes or opens.
-use Rattle.std.specs.Prelude.{◌≡◌, ℕ, zero, suc, ◌+◌, List, [], ◌∷◌, Option, Some, None, slice_get, false}
+use Rattle.std.specs.Prelude.{ℕ, zero, suc, ◌+◌, List, [], ◌∷◌, Option, Some, None, slice_get, false}
 use Rattle.mrp_types.specs.declared.id.NodeId.{NodeId}
 use Rattle.mrp_types.specs.declared.id.ClientId.{ClientId}
 use Rattle.mrp_types.specs.declared.id.RingId.{RingId}
@@ -9,7 +9,6 @@ use Rattle.mrp_config.specs.Config.{Config, node_at, client_at}
 use Rattle.mrp_config.specs.declared.tables.NodeTable.{NodeTable}
 use Rattle.mrp_config.specs.declared.tables.ClientTable.{ClientTable}
 use Rattle.command_codec.specs.declared.command.Command.{Command}
-use Rattle.disk_model.specs.declared.area.Area.{Area}
 use Rattle.disk_model.specs.declared.area.Area.TheVariants.{Journal0}
 use Rattle.frames.specs.declared.sent.Sent.{Sent}
 use Rattle.vote_journal.specs.Journal.{Journal}

@@ -9,7 +9,7 @@ use Rattle.mrp_config.specs.Config.{Config}
 use Rattle.command_codec.specs.declared.command.Command.TheVariants as command
 use Rattle.protocol.specs.Lines.{Line, Begin, Chose, Deliver, Restore, Saved, Trim, Up, Down, Crash}
 use Rattle.bare_world.specs.Worlds.{Happening, nothing}
-use Rattle.line_rows.specs.Moves.{Move, Open, Next, Lead, Ask, Fall, happenings, flow, ticks}
+use Rattle.line_rows.specs.Moves.{Move, Open, Lead, Ask, Fall, happenings, flow, ticks}
 
 abbrev pub node : ℕ → NodeId
 node n = record { 0 = n }

@@ -4,3 +4,4 @@ pub mod Clients
 pub mod Runs
 pub mod Fitting
 pub mod Laws
+pub mod Agreeing

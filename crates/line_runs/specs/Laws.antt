@@ -1,6 +1,6 @@
 -- The words in which the laws of every run are said. A run's lines stand in the order in which they were printed; "the lines
 -- before" a line are turned round by `latest_first`, as the definitions of what is read of lines want them.
-use Rattle.std.specs.Prelude.{◌≡◌, ℕ, ◌<◌, ◌≤◌, ◌⊎◌, true, List, Option, Some, None}
+use Rattle.std.specs.Prelude.{◌≡◌, ℕ, ◌<◌, ◌≤◌, ◌⊎◌, true, List, Option, Some, None, ◌++◌, ◌∷◌}
 use Rattle.mrp_types.specs.declared.id.NodeId.{NodeId}
 use Rattle.mrp_types.specs.declared.id.RingId.{RingId}
 use Rattle.mrp_types.specs.declared.id.Party.TheVariants.{Node}
@@ -27,6 +27,12 @@ abbrev pub HaveOneValue : List Line → Type 0
 HaveOneValue lines =
     (m n : NodeId) (ring : RingId) (lo hi lo' hi' inst : ℕ) (value value' : Value) → Has lines (Learn m ring lo hi value) → Has lines (Learn n ring lo' hi' value')
     → lo ≤ inst → inst < hi → lo' ≤ inst → inst < hi' → value ≡ value'
+
+-- each learn line has the value of each earlier learn line of the ring that covers an instance of it
+abbrev pub AgreeInTurn : List Line → Type 0
+AgreeInTurn lines =
+    (before after : List Line) (n : NodeId) (ring : RingId) (lo hi : ℕ) (value : Value) → lines ≡ before ++ Learn n ring lo hi value ∷ after
+    → (m : NodeId) (low high : ℕ) (earlier : Value) → Has before (Learn m ring low high earlier) → (inst : ℕ) → lo ≤ inst → inst < hi → low ≤ inst → inst < high → earlier ≡ value
 
 -- a run of a valid deployment, from the world in which no node has opened yet
 pub record IsRun (c : Config) (hs : List Happening) : Type 0 where

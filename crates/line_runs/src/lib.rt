@@ -29,7 +29,7 @@ ghost use Rattle.faithful.specs.Rules.{AllHaveTold, AllKnown, Begins, Chooses, D
 ghost use Rattle.faithful.specs.Scanners.{Reaches, entry_of, some_reaches, told};
 ghost use Rattle.recovery_lines.specs.Ties.{IsAnswer, IsCovered, IsFit, IsSafe, newest_of};
 ghost use Rattle.line_runs.specs.Invariant.{latest_first, node};
-ghost use Rattle.line_runs.specs.Laws.{IsPossible, IsRun, KeepsTold, NodeSent, StartsPast, host_of, lines_of, trim_told};
+ghost use Rattle.line_runs.specs.Laws.{AgreeInTurn, HaveOneValue, IsPossible, IsRun, KeepsTold, NodeSent, StartsPast, host_of, lines_of, trim_told};
 
 /// Rule F2. A node delivers only while it is ready, the place that it delivers holds a batch, and from the place where it
 /// stood only skips lie before it: so a replica goes through the one order of its rings without a gap, and never back. A save
@@ -124,4 +124,9 @@ pub fn recoveries_are_safe()
 /// partition at most.
 pub fn valid_deployments_fit()
     ensures { (c : Config) → IsValid c → IsFit c }
+{}
+
+/// What the laws take of the rings is so where each learn line has the value of each earlier one that covers an instance of it.
+pub fn agreement_in_turn_is_enough()
+    ensures { (lines : List Line) → AgreeInTurn lines → HaveOneValue lines }
 {}

@@ -26,8 +26,6 @@ use Rattle.range_map.specs.Entries.{spread_over}
 use Rattle.ring_link.specs.Silence.{quiet_after}
 use Rattle.vote_state.specs.Ranges.{ranges_of, are_held}
 use Rattle.line_rows.proofs.May.{may_happen}
-use Rattle.line_rows.specs.Row.{config, moves}
-use Rattle.bare_world.specs.Worlds.{nothing}
 use Rattle.line_rows.proofs.a_replica_recovers_past_a_trim.Goals as goal
 
 pub returns-clause-may : goal.returns-clause-may
