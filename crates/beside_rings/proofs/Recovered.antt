@@ -20,7 +20,7 @@ use Rattle.protocol.specs.Lines.{Line, Begin, Chose, Restore, Refuse, AttemptLim
 use Rattle.protocol.specs.Rings.{is_beyond, sends_to}
 use Rattle.protocol.specs.Trimming.{has_answered}
 use Rattle.protocol.specs.Node.{Acting, View, RingPart, Service, Stage, Recovering, Ready, Attempt, Choice, with_stage, prints, sends_all}
-use Rattle.protocol.specs.Merging.{merges, place_of}
+use Rattle.protocol.specs.Merging.{place_of}
 use Rattle.protocol.specs.Recovery.{epoch_of, own_tuple, others_of, with_lowered, lowers, restores, restores_read, installs_own, best_of, asks_part, gathers, chooses, chooses_best, chooses_if_quorum, asks_checkpoint, begins_next, begins, is_of, takes_answer, answered_by, is_of_choice, restores_or_begins, with_more, part_for, takes_part, gone_for, takes_gone, tells_checkpoint, answer_part, tells_part, asks_missing, ends_attempt, ticks_attempt, recovery_ticks, safe_in, safe_of}
 use Rattle.protocol.specs.Step.{waits_below, begins_if_behind, after_trim, behind, tells_safe, at_service, at_attempt, recovering}
 use Rattle.protocol.specs.Tick.{recovery_ticks_at}
