@@ -5,9 +5,10 @@ use Rattle.ring_safety.specs.Faces.{Proposal, Promise, Face, rank, owner}
 use Rattle.ring_safety.specs.Deeds.{IsProposed}
 use Rattle.ring_safety.specs.Worlds.{World, Event, durables, run, CanRun, IsFaceOf, Chosen}
 use Rattle.ring_safety.specs.Rules.{Grows, KeepsPromise, KeepsVote, PromiseRule, VoteRule, ProposeRule, ChooseRule, OneValueRule, StaysRule}
-use Rattle.ring_safety.proofs.Local.{Local, Grows-of_eq, Grows-trans}
+use Rattle.ring_safety.specs.Invariant.{Local, Sound}
+use Rattle.ring_safety.proofs.Local.{Grows-of_eq, Grows-trans}
 use Rattle.ring_safety.proofs.Choosing.{all_for, one_chosen}
-use Rattle.ring_safety.proofs.Worlds.{Sound, Sound-run, either_face, run_more, later_more}
+use Rattle.ring_safety.proofs.Worlds.{Sound-run, either_face, run_more, later_more}
 
 below_or_kept : (trim i b r : ℕ) → (trim ≤ i → b < r) → (i < trim) ⊎ (b < r)
 below_or_kept trim i b r h = grind arith
