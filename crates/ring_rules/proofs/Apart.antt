@@ -67,7 +67,7 @@ pub frames_apart : (id : RingId) (other : Ring) → (id.0 ≡ other.id.0 → ⊥
 frames_apart id other ne now [] all = tt
 frames_apart id other ne now (sent ∷ frames) all = (body_apart id other ne now sent.frame.from sent.frame.body all.0, frames_apart id other ne now frames all.1)
 
-lines_told : (ring : Ring) (now : ℕ → Face Value) (line : Line) → IsNoLearn line → IsTold ring now line
+pub lines_told : (ring : Ring) (now : ℕ → Face Value) (line : Line) → IsNoLearn line → IsTold ring now line
 lines_told ring now (Learn node r lo hi value) is = absurd is
 lines_told ring now other is = tt
 

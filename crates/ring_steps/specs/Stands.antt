@@ -16,6 +16,7 @@ use Rattle.vote_state.specs.declared.change.Change.{Change}
 use Rattle.ring_safety.specs.Faces.{Face}
 use Rattle.ring_kept.specs.Kept.{KeptTies}
 use Rattle.ring_tables.specs.Ties.{acceptors, PartTies, SaidBy, IsSaid, IsTold, IsRecorded}
+use Rattle.ring_tables.specs.Settled.{PartFine}
 
 pub record PartStands (ring : Ring) (now : ℕ → Face Value) (f : Face Value) (view : View) (p : RingPart) : Type 0 where
   pub of_ring : p.ring ≡ ring
