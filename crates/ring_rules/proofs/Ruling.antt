@@ -1,5 +1,5 @@
 -- Each rule of a ring at one of its acceptors, from a settled part: what it makes stands for a face, and leaves the part settled.
-use Rattle.std.proofs.Common.{◌≡◌, ℕ, zero, suc, ◌<◌, ◌≤◌, ◌^◌, Bool, true, false, ◌&&◌, List, [], ◌∷◌, ◌++◌, length, Option, Some, None, refl, sym, subst, arith, get_or}
+use Rattle.std.proofs.Common.{◌≡◌, ℕ, zero, suc, ◌<◌, ◌≤◌, ◌^◌, Bool, true, false, ◌&&◌, List, [], ◌∷◌, ◌++◌, length, Option, Some, None, refl, sym, subst, arith}
 use Rattle.std.specs.Prelude.{◌==◌, nat_lt, nat_le, not, if◌then◌else◌}
 use Rattle.std.proofs.lemmas.Bool.{and_parts}
 use Rattle.std.proofs.lemmas.Bool.Decides.{nat_tests}
@@ -22,7 +22,7 @@ use Rattle.ring_reach.specs.Reach.{seen}
 use Rattle.ring_reach.proofs.Reaching.{Local-reach, seen_from}
 use Rattle.protocol.specs.Lines.{BallotLimit, InstanceLimit}
 use Rattle.protocol.specs.Parts.{Ring, Campaign, Role, Idle, Active, Round, Part, Did}
-use Rattle.protocol.specs.Rings.{is_node, is_own, is_acceptor, by_id, replicas_of, owner_of, position_of, has_bit, with_bit, sends_each}
+use Rattle.protocol.specs.Rings.{is_node, is_acceptor, by_id, replicas_of, owner_of, position_of, has_bit, with_bit, sends_each}
 use Rattle.protocol.specs.Doing.{nothing_done, with_part, with_change, with_frames, with_kept, with_campaign, with_line}
 use Rattle.protocol.specs.Learner.{learned_ranges, passed_on, decided, chosen}
 use Rattle.protocol.specs.Acceptor.{idle_below, promised_part, promises, votes_for, trims_to, tells_promise, refuses, tells_trim, tells_ranges, ranges_page, goes_on, accepts_at, accepts, prepares, fetches}
@@ -176,6 +176,7 @@ module _ (ring : Ring) where
           let test = (and_parts (has_room ring campaign) (nat_lt campaign.next END) e).1 in
           let under : campaign.next < END = grind (arith, nat_tests) in
           settled_offers link part campaign (shortfall_from campaign.next missing) (settled_offer part.kept.trim campaign (shortfall_from campaign.next missing) (omega arith) c)
+
       by_answer : (campaign : Campaign) → IsSettled ring part.kept.trim campaign → (o : Option ℕ) → DidSettled ring (levels_by ring link part campaign o)
       by_answer campaign c None = c
       by_answer campaign c (Some missing) = by_room campaign c missing (has_room ring campaign && nat_lt campaign.next END) refl

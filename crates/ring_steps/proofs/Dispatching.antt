@@ -166,8 +166,8 @@ module _ (config : Config) (ring : Ring) (faces : ℕ → Face Value) (a : ℕ) 
       go true e =
           does_goes f acting w fr p there did
           (λ same is t fine.
-              let member : is_acceptor ring ≡ true = subst (λ (x : Ring). is_acceptor x ≡ true) is e in
-              rule.own same (at_seats member) member (local_at f w.reached) p.part t fine.settled)
+          let member : is_acceptor ring ≡ true = subst (λ (x : Ring). is_acceptor x ≡ true) is e in
+          rule.own same (at_seats member) member (local_at f w.reached) p.part t fine.settled)
           (rule.other p.ring p.part)
 
   acceptor_goes : (f : Face Value) (acting : Acting) → Way f acting → (fr : RingId) (did : Ring → Part → Acting → Did) → AcceptorRule f fr (λ r part. did r part acting)

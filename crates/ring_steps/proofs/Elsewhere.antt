@@ -69,7 +69,8 @@ module _ (ring other : Ring) (ne : other.id.0 ≡ ring.id.0 → ⊥) where
             let first : Leaves ring a told = Leaves-trans ring (put_leaves (learns other p.part range).part a) (record {
               part = λ q is. record { before = q; there = is; same = SameBut-refl q };
               journal = refl;
-              changes = λ base. refl; recorded = λ f s. s;
+              changes = λ base. refl;
+              recorded = λ f s. s;
               frames = λ n s. s;
               replies = λ n s. s;
               lines = λ n s. appended (IsTold ring n) a.lines (Learn a.view.id other.id range.lo range.hi range.value ∷ []) s ((λ e. absurd (ne e)), tt);

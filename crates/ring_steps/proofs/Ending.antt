@@ -99,7 +99,6 @@ recorded_rings j (c ∷ cs) = taken_rings (c ∷ cs) j.state
 -- ---- the end
 
 module _ (ring : Ring) (faces : ℕ → Face Value) (a : ℕ) (start : Face Value) where
-
   way_rebased : (j : Journal) (f : Face Value) (acting : Acting) → OnWay ring faces a start j (PartFine ring) f acting → OnWay ring faces a start j (PartFine ring) f (rebases acting)
   way_rebased j f acting w = record {
     reached = w.reached;

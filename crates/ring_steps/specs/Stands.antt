@@ -1,16 +1,11 @@
 -- How the view of a node stands for a face of a ring's machine, at any node.
-use Rattle.std.specs.Prelude.{List, ◌≡◌, ℕ, ◌<◌, ◌≤◌, true, false, length, Some, None, []}
+use Rattle.std.specs.Prelude.{List, ◌≡◌, ℕ, ◌<◌, length, Some, []}
 use Rattle.std.specs.List.{AllByRecursion}
 use Rattle.mrp_types.specs.declared.value.Value.{Value}
 use Rattle.mrp_config.specs.declared.tables.RingTable.{RingTable}
-use Rattle.mrp_types.specs.declared.id.TheConstants.{END}
-use Rattle.range_map.specs.Entries.{value_at}
 use Rattle.vote_state.specs.State.{ring_at}
 use Rattle.ring_reach.specs.Reach.{Reaches, seen}
-use Rattle.protocol.specs.Parts.{Ring, Campaign, Role, Idle, Active, Part}
-use Rattle.protocol.specs.Rings.{is_acceptor}
-use Rattle.protocol.specs.Ballots.{leads_now}
-use Rattle.protocol.specs.Proposing.{has_room}
+use Rattle.protocol.specs.Parts.{Ring}
 use Rattle.protocol.specs.Node.{View, RingPart, Event, Takes, Stepped, Work, Records, part_at}
 use Rattle.vote_state.specs.declared.change.Change.{Change}
 use Rattle.ring_safety.specs.Faces.{Face}

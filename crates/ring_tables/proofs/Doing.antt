@@ -28,7 +28,7 @@ use Rattle.ring_safety.specs.Deeds.{Promises, done}
 use Rattle.ring_safety.specs.Rules.{Grows}
 use Rattle.ring_safety.proofs.Local.{Grows-refl}
 use Rattle.ring_safety.proofs.Deeds.{Grows-done}
-use Rattle.ring_kept.specs.Kept.{KeptTies, kept_by, kept_after}
+use Rattle.ring_kept.specs.Kept.{KeptTies, kept_by}
 use Rattle.ring_kept.proofs.Keeping.{kept_promised, kept_voted, kept_held, not_held_lt, kept_after_more}
 use Rattle.ring_tables.specs.Ties.{acceptors, IsRangeChosen, RoleTies, LearnerTies, PartTies, BodySaid, IsSaid, IsRecorded}
 use Rattle.ring_tables.proofs.More.{mapped, appended, IsRangeChosen-more, LearnerTies-more, all_said_more, all_recorded_more}
