@@ -1,5 +1,5 @@
 -- Deeds one after another, and over ranges of instances.
-use Rattle.std.proofs.Common.{◌≡◌, inl, inr, ℕ, zero, suc, ◌+◌, ◌<◌, ◌≤◌, Bool, true, false, cond, nat_eq, List, [], ◌∷◌, ◌++◌, Option, Some, refl, sym, ◌∙◌, ap, subst, arith}
+use Rattle.std.proofs.Common.{◌≡◌, ◌⊎◌, inl, inr, ℕ, zero, suc, ◌+◌, ◌<◌, ◌≤◌, Bool, true, false, cond, nat_eq, List, [], ◌∷◌, ◌++◌, Option, Some, refl, sym, ◌∙◌, ap, subst, arith}
 use Rattle.std.proofs.lemmas.Bool.{cases_eq}
 use Rattle.std.proofs.lemmas.Bool.Decides.{nat_tests}
 use Rattle.quorums.specs.Groups.{Has}
@@ -11,7 +11,7 @@ use Rattle.ring_safety.proofs.Votes.{voted_here}
 use Rattle.ring_safety.proofs.Local.{Grows-refl, Grows-trans, IsProposed-more, Backing-more}
 use Rattle.ring_safety.proofs.Deeds.{Grows-done, Local-all_done}
 use Rattle.ring_safety.proofs.Turns.{may_both, done_both}
-use Rattle.ring_reach.specs.Reach.{Reaches, seen, proposal, HasVoted, Voting, Proposing}
+use Rattle.ring_reach.specs.Reach.{Reaches, seen, proposal, IsAmong, HasVoted, Voting, Proposing}
 
 -- ---- deeds in a row
 
@@ -88,14 +88,15 @@ module _ {V : Type 0} (n : ℕ) (faces : ℕ → Face V) (a : ℕ) where
     inside = λ i x y. absurd (omega arith);
     outside = λ i x. refl;
     cast = λ i x y. absurd (omega arith);
+    new = λ c h. inl h;
     grows = Grows-refl f;
   }
 
   -- g has cast the first vote, and h the later ones
   one_more_voted : (f g h : Face V) (ballot lo size : ℕ) (value : V) → g.promise ≡ f.promise → g.trim ≡ f.trim → Grows f g
       → ((i : ℕ) → g.votes i ≡ voted f.votes lo (record { ballot = ballot; value = value }) i) → Has g.casts (proposal ballot lo value)
-      → HasVoted g h ballot (suc lo) size value → HasVoted f h ballot lo (suc size) value
-  one_more_voted f g h ballot lo size value promise trim grows votes cast r = record {
+      → ((c : Proposal V) → Has g.casts c → Has (proposal ballot lo value ∷ f.casts) c) → HasVoted g h ballot (suc lo) size value → HasVoted f h ballot lo (suc size) value
+  one_more_voted f g h ballot lo size value promise trim grows votes cast one r = record {
     promise = r.promise ∙ promise;
     trim = r.trim ∙ trim;
     inside = λ i x y. elim (cases_eq i lo) [
@@ -111,8 +112,18 @@ module _ {V : Type 0} (n : ℕ) (faces : ℕ → Face V) (a : ℕ) where
       | inl same ↦ r.grows.casts (proposal ballot i value) (subst (λ j. Has g.casts (proposal ballot j value)) (sym same) cast)
       | inr ne ↦ r.cast i (omega arith) (omega arith)
     ];
+    new = λ c x. by (r.new c x);
     grows = Grows-trans grows r.grows;
   }
+    where
+      first : (c : Proposal V) → Has (proposal ballot lo value ∷ f.casts) c → Has f.casts c ⊎ IsAmong ballot lo (suc size) value c
+      first c (inl e) = let at : c.instance ≡ lo = ap (λ (p : Proposal V). p.instance) e in
+          inr (record { of_ballot = ap (λ (p : Proposal V). p.ballot) e; from = omega arith; to = omega arith; of_value = ap (λ (p : Proposal V). p.value) e })
+      first c (inr h) = inl h
+
+      by : {c : Proposal V} → Has g.casts c ⊎ IsAmong ballot (suc lo) size value c → Has f.casts c ⊎ IsAmong ballot lo (suc size) value c
+      by {c} (inl h) = first c (one c h)
+      by (inr m) = inr (record { of_ballot = m.of_ballot; from = let low = m.from in omega arith; to = let high = m.to in omega arith; of_value = m.of_value })
 
   -- ---- votes over a range
 
@@ -129,7 +140,7 @@ module _ {V : Type 0} (n : ℕ) (faces : ℕ → Face V) (a : ℕ) where
       record {
         face = r.face;
         reached = reach_first f r.face (Votes ballot lo value) may r.reached;
-        voted = one_more_voted f g r.face ballot lo size value (sym promised) refl grows (λ i. refl) (inl refl) r.voted;
+        voted = one_more_voted f g r.face ballot lo size value (sym promised) refl grows (λ i. refl) (inl refl) (λ c h. h) r.voted;
         leads = r.leads;
       }
 
@@ -164,7 +175,7 @@ module _ {V : Type 0} (n : ℕ) (faces : ℕ → Face V) (a : ℕ) where
       record {
         face = r.face;
         reached = reach_first f r.face (Proposes ballot lo value) may r.reached;
-        voted = one_more_voted f g r.face ballot lo size value refl refl grows (λ i. refl) (inl refl) r.voted;
+        voted = one_more_voted f g r.face ballot lo size value refl refl grows (λ i. refl) (inl refl) (λ c h. h) r.voted;
         next = r.next;
         leads = r.leads;
         passed = omega arith;

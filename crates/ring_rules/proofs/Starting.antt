@@ -166,7 +166,7 @@ module _ (ring : Ring) (faces : ℕ → Face Value) (a : ℕ) (seat : position_o
         go false e =
             let d : DoneTies ring faces a start kept g changed =
             done_changed ring faces a start kept f g did (reach_one (acceptors ring) faces a f (Starts ballot END) may) grows t.done (change.Promise ring.id ballot) (promised_part ballot did.part)
-            (λ r. omega arith) (rw (same_number ring.id.0) refl) refl kept_started in
+            (record { stand = ((λ r. omega arith), tt); voted = λ c h. inl h }) (rw (same_number ring.id.0) refl) refl kept_started in
             record {
               face = g;
               grows = grows;

@@ -103,6 +103,7 @@ module _ {V : Type 0} (n : ℕ) (faces : ℕ → Face V) (all : (k : ℕ) → Lo
     proposed = k.proposed;
     owned = k.owned;
     proposal_promised = λ p h. omega (arith, k.proposal_promised p h);
+    proposal_cast = k.proposal_cast;
     one_value = k.one_value;
     leads_owned = k.leads_owned;
     leads_promised = λ l e. omega (arith, k.leads_promised l e);
@@ -130,6 +131,7 @@ module _ {V : Type 0} (n : ℕ) (faces : ℕ → Face V) (all : (k : ℕ) → Lo
         proposed = k.proposed;
         owned = k.owned;
         proposal_promised = λ p h. omega (arith, k.proposal_promised p h);
+        proposal_cast = k.proposal_cast;
         one_value = k.one_value;
         leads_owned = lead_is (λ l. owner n l.ballot ≡ a) may.owned;
         leads_promised = lead_is (λ l. l.ballot ≤ ballot) (omega arith);
@@ -165,6 +167,7 @@ module _ {V : Type 0} (n : ℕ) (faces : ℕ → Face V) (all : (k : ℕ) → Lo
         proposed = each f.casts (inr (inl refl)) (λ c h. known_more g grows c (k.proposed c h));
         owned = each f.proposals mine k.owned;
         proposal_promised = each f.proposals (omega arith) k.proposal_promised;
+        proposal_cast = each f.proposals (inl refl) (λ q h. inr (k.proposal_cast q h));
         one_value = each f.proposals
             (each f.proposals (λ s t. refl) (λ q h s t. absurd (omega (arith, past q h (sym s)))))
             (λ q h. each f.proposals (λ s t. absurd (omega (arith, past q h s))) (k.one_value q h));
@@ -198,6 +201,7 @@ module _ {V : Type 0} (n : ℕ) (faces : ℕ → Face V) (all : (k : ℕ) → Lo
         proposed = each f.casts (known_more g grows p may.proposed) (λ c h. known_more g grows c (k.proposed c h));
         owned = k.owned;
         proposal_promised = λ q h. omega (arith, k.proposal_promised q h);
+        proposal_cast = λ q h. inr (k.proposal_cast q h);
         one_value = k.one_value;
         leads_owned = k.leads_owned;
         leads_promised = λ l e. omega (arith, k.leads_promised l e);
@@ -220,6 +224,7 @@ module _ {V : Type 0} (n : ℕ) (faces : ℕ → Face V) (all : (k : ℕ) → Lo
     proposed = k.proposed;
     owned = k.owned;
     proposal_promised = k.proposal_promised;
+    proposal_cast = k.proposal_cast;
     one_value = k.one_value;
     leads_owned = k.leads_owned;
     leads_promised = k.leads_promised;

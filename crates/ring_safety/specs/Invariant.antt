@@ -28,6 +28,8 @@ pub record Local {V : Type 0} (n : ℕ) (faces : ℕ → Face V) (a : ℕ) (f : 
   -- it proposes in ballots that it owns, not above its promise, and one value in each ballot and instance
   pub owned : (p : Proposal V) → Has f.proposals p → owner n p.ballot ≡ a
   pub proposal_promised : (p : Proposal V) → Has f.proposals p → p.ballot ≤ f.promise
+  -- it votes for each value that it proposes
+  pub proposal_cast : (p : Proposal V) → Has f.proposals p → Has f.casts p
   pub one_value : (p : Proposal V) → Has f.proposals p → (q : Proposal V) → Has f.proposals q → p.ballot ≡ q.ballot → p.instance ≡ q.instance → p.value ≡ q.value
   -- it leads a ballot that it owns, not above its promise, and has proposed nothing there from its next instance on
   pub leads_owned : (l : Lead) → f.leads ≡ Some l → owner n l.ballot ≡ a

@@ -32,14 +32,14 @@ use Rattle.beside_rings.specs.Beside.{IsQuiet, IsQuietSent, SameBut, AreSame, Un
 use Rattle.beside_rings.proofs.Following.{Follows-all, SameBut-refl, SameBut-trans}
 use Rattle.beside_rings.proofs.Merge.{merges_untouched}
 use Rattle.ring_rules.proofs.Apart.{lines_told}
-use Rattle.ring_tables.specs.Ties.{SaidBy}
+use Rattle.ring_tables.specs.Ties.{SaidBy, AreRecorded}
 use Rattle.ring_rules.specs.Ruled.{Ruled}
 use Rattle.ring_safety.specs.Faces.{Face}
 use Rattle.ring_safety.specs.Rules.{Grows}
 use Rattle.ring_safety.proofs.Local.{Grows-refl, Grows-trans}
 use Rattle.ring_kept.specs.Kept.{KeptTies, kept_after, kept_by}
-use Rattle.ring_tables.specs.Ties.{acceptors, IsRangeChosen, RoleTies, PartTies, IsSaid, IsTold, IsRecorded}
-use Rattle.ring_tables.proofs.More.{mapped, appended, IsRangeChosen-more, all_said_more, all_told_more, all_recorded_more}
+use Rattle.ring_tables.specs.Ties.{acceptors, IsRangeChosen, RoleTies, PartTies, IsSaid, IsTold}
+use Rattle.ring_tables.proofs.More.{mapped, appended, IsRangeChosen-more, all_said_more, all_told_more, recorded_both}
 use Rattle.beside_rings.specs.Beside.{IsNoLearn}
 use Rattle.ring_rules.proofs.Apart.{none_learned, of_none, of_proposes_after}
 use Rattle.ring_tables.specs.Done.{DidTies, After}
@@ -57,7 +57,7 @@ pub record Leaves (ring : Ring) (old new : Acting) : Type 0 where
   pub part : (p : RingPart) → part_at new.view ring.id ≡ Some p → WasThere ring.id old.view p
   pub journal : new.view.journal ≡ old.view.journal
   pub changes : (base : RingState) → kept_after ring.id new.changes base ≡ kept_after ring.id old.changes base
-  pub recorded : (f : Face Value) → AllByRecursion (IsRecorded ring.id f) old.changes → AllByRecursion (IsRecorded ring.id f) new.changes
+  pub recorded : (start f : Face Value) → AreRecorded ring.id start f old.changes → AreRecorded ring.id start f new.changes
   pub frames : (now : ℕ → Face Value) → AllByRecursion (IsSaid ring now) old.frames → AllByRecursion (IsSaid ring now) new.frames
   pub replies : (now : ℕ → Face Value) → AllByRecursion (IsSaid ring now) old.replies → AllByRecursion (IsSaid ring now) new.replies
   pub lines : (now : ℕ → Face Value) → AllByRecursion (IsTold ring now) old.lines → AllByRecursion (IsTold ring now) new.lines
@@ -67,7 +67,7 @@ Leaves-refl ring a = record {
   part = λ p is. record { before = p; there = is; same = SameBut-refl p };
   journal = refl;
   changes = λ base. refl;
-  recorded = λ f s. s;
+  recorded = λ z f s. s;
   frames = λ now s. s;
   replies = λ now s. s;
   lines = λ now s. s;
@@ -78,7 +78,7 @@ Leaves-trans ring {a} {b} {c} x y = record {
   part = part;
   journal = y.journal ∙ x.journal;
   changes = λ base. y.changes base ∙ x.changes base;
-  recorded = λ f s. y.recorded f (x.recorded f s);
+  recorded = λ z f s. y.recorded z f (x.recorded z f s);
   frames = λ now s. y.frames now (x.frames now s);
   replies = λ now s. y.replies now (x.replies now s);
   lines = λ now s. y.lines now (x.lines now s);
@@ -125,7 +125,7 @@ untouched_leaves ring a b u = record {
   part = λ p is. let q = same_there ring.id a.view.parts b.view.parts u.parts p is in record { before = q.0; there = q.1; same = q.2 };
   journal = u.journal;
   changes = λ base. ap (λ (l : List Change). kept_after ring.id l base) u.changes;
-  recorded = λ f s. subst (λ (l : List Change). AllByRecursion (IsRecorded ring.id f) l) (sym u.changes) s;
+  recorded = λ z f s. subst (λ (l : List Change). AreRecorded ring.id z f l) (sym u.changes) s;
   frames = λ now s. Follows-all IsQuietSent (IsSaid ring now) a.frames b.frames (λ sent. quiet_said ring now sent.frame.from sent.frame.body) u.frames s;
   replies = λ now s. Follows-all IsQuietSent (IsSaid ring now) a.replies b.replies (λ sent. quiet_said ring now sent.frame.from sent.frame.body) u.replies s;
   lines = λ now s. Follows-all IsNoLearn (IsTold ring now) a.lines b.lines (lines_told ring now) u.lines s;
@@ -200,7 +200,7 @@ pub record OnWay (ring : Ring) (faces : ℕ → Face Value) (a : ℕ) (start : F
   pub frames : AllByRecursion (IsSaid ring (seen faces a f)) acting.frames
   pub replies : AllByRecursion (IsSaid ring (seen faces a f)) acting.replies
   pub lines : AllByRecursion (IsTold ring (seen faces a f)) acting.lines
-  pub recorded : AllByRecursion (IsRecorded ring.id f) acting.changes
+  pub recorded : AreRecorded ring.id start f acting.changes
   pub part : (p : RingPart) → part_at acting.view ring.id ≡ Some p → MemberTies ring faces a (ring_at j.state ring.id) P f acting.changes p
 
 pub record WayAfter (ring : Ring) (faces : ℕ → Face Value) (a : ℕ) (start : Face Value) (j : Journal) (P : Part → Type 0) (f : Face Value) (acting : Acting) : Type 0 where
@@ -252,7 +252,7 @@ module _ (ring : Ring) (faces : ℕ → Face Value) (a : ℕ) (start : Face Valu
     frames = l.frames (seen faces a f) w.frames;
     replies = l.replies (seen faces a f) w.replies;
     lines = l.lines (seen faces a f) w.lines;
-    recorded = l.recorded f w.recorded;
+    recorded = l.recorded start f w.recorded;
     part = λ p is.
         let was = l.part p is in
         let m = w.part was.before was.there in
@@ -281,7 +281,7 @@ module _ (ring : Ring) (faces : ℕ → Face Value) (a : ℕ) (start : Face Valu
         replies = all_said_more ring (seen faces a f) (seen faces a g) more acting.replies w.replies;
         lines = appended (IsTold ring (seen faces a g)) acting.lines did.lines (all_told_more ring (seen faces a f) (seen faces a g) more acting.lines w.lines)
             (none_learned ring (seen faces a g) did.lines unlearned);
-        recorded = appended (IsRecorded ring.id g) acting.changes did.changes (all_recorded_more ring f g grows acting.changes w.recorded) e.recorded;
+        recorded = recorded_both ring start f g acting.changes did.changes grows w.recorded e.recorded;
         part = λ q is.
             let made : RingPart = record p { part = did.part } in
             let same : made ≡ q = put_there ring.id did.part acting.view.parts p q there is in

@@ -31,10 +31,10 @@ use Rattle.mrp_types.specs.declared.id.RingId.{RingId}
 use Rattle.ring_safety.specs.Faces.{Face}
 use Rattle.ring_safety.specs.Invariant.{Local}
 use Rattle.ring_kept.specs.Kept.{KeptTies, kept_after}
-use Rattle.ring_tables.specs.Ties.{acceptors, IsSaid, IsTold, IsRecorded, LearnerTies}
+use Rattle.ring_tables.specs.Ties.{acceptors, IsSaid, IsTold, LearnerTies, AreRecorded}
 use Rattle.ring_steps.specs.Stands.{changes_in, ViewStands, EventSaid, StepStands}
 use Rattle.ring_tables.specs.Settled.{PartFine}
-use Rattle.ring_tables.proofs.More.{appended}
+use Rattle.ring_tables.proofs.More.{appended, none_recorded}
 use Rattle.ring_steps.proofs.Along.{MemberTies, OnWay, WayAfter}
 use Rattle.ring_tables.specs.Done.{Seats}
 use Rattle.ring_steps.proofs.Dispatching.{from_goes, lead_goes, beats_go}
@@ -139,8 +139,8 @@ module _ (ring : Ring) (faces : ℕ → Face Value) (a : ℕ) (start : Face Valu
     recorded = work acting.changes w.recorded;
   }
     where
-      work : (cs : List Change) → AllByRecursion (IsRecorded ring.id f) cs → AllByRecursion (IsRecorded ring.id f) (changes_in (work_of cs))
-      work [] all = tt
+      work : (cs : List Change) → AreRecorded ring.id start f cs → AreRecorded ring.id start f (changes_in (work_of cs))
+      work [] all = all
       work (c ∷ cs) all = all
 
       now : ring_at (recorded acting.view.journal acting.changes).state ring.id ≡ kept_after ring.id acting.changes (ring_at acting.view.journal.state ring.id)
@@ -167,7 +167,7 @@ module _ (config : Config) (ring : Ring) (faces : ℕ → Face Value) (a : ℕ) 
       frames = tt;
       replies = tt;
       lines = tt;
-      recorded = tt;
+      recorded = none_recorded ring.id start;
       part = λ p is.
           let t = v.part p (ap (λ (l : List RingPart). part_of l) (sym parts) ∙ is) in
           record { of_ring = t.of_ring; ties = t.ties; kept = sym t.kept; fine = t.fine };
@@ -196,7 +196,7 @@ module _ (config : Config) (ring : Ring) (faces : ℕ → Face Value) (a : ℕ) 
       };
       frames = subst (λ l. AllByRecursion (IsSaid ring (seen faces a start)) l) (sym frames) tt;
       lines = lines;
-      recorded = subst (λ l. AllByRecursion (IsRecorded ring.id start) l) (sym work) tt;
+      recorded = subst (λ l. AreRecorded ring.id start start l) (sym work) (none_recorded ring.id start);
     }
       where
         part_of : List RingPart → Option RingPart

@@ -22,6 +22,7 @@ use Rattle.ring_safety.specs.Faces.{Face}
 use Rattle.ring_kept.specs.Kept.{KeptTies}
 use Rattle.ring_tables.specs.Ties.{acceptors}
 use Rattle.ring_tables.specs.Settled.{PartFine}
+use Rattle.ring_tables.proofs.More.{none_recorded}
 use Rattle.ring_steps.specs.Stands.{IsTheOnly, StepStands}
 use Rattle.ring_steps.proofs.Along.{Leaves, untouched_leaves, MemberTies, OnWay, PartFine-same, way_leaves}
 use Rattle.ring_steps.proofs.Ending.{way_finished}
@@ -59,7 +60,7 @@ module _ (config : Config) (id : NodeId) (table : RingTable) (only : IsTheOnly t
     frames = tt;
     replies = tt;
     lines = tt;
-    recorded = tt;
+    recorded = none_recorded ring.id start;
     part = λ p is. subst (λ (x : RingPart). MemberTies ring faces a (ring_at journal.state ring.id) (PartFine ring) start [] x) (new_there config id journal.state table config.rings only p is)
         (record {
           of_ring = refl;

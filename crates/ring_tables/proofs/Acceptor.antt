@@ -167,7 +167,7 @@ module _ (ring : Ring) (faces : ℕ → Face Value) (a : ℕ) (seat : position_o
         grows = grows;
         ties = did_frames ring faces a start kept g did (sends ring (Some to) (promise_of ring ballot lo did.part.kept)) (said_sends ring (seen faces a g) (Some to) (promise_of ring ballot lo did.part.kept) said)
             (record {
-              done = done_on ring faces a start kept f g did (reach_one (acceptors ring) faces a f (Promises ballot lo high) may) grows t.done (kept_said f did.part.kept ballot lo high same t.done.kept);
+              done = done_on ring faces a start kept f g did (reach_one (acceptors ring) faces a f (Promises ballot lo high) may) grows t.done (λ c h. h) (kept_said f did.part.kept ballot lo high same t.done.kept);
               role = RoleTies-more (acceptors ring) (seen faces a f) (seen faces a g) (seen_more (acceptors ring) faces a f g grows) f g did.part.coordinator.role grows refl (sym (tied ∙ same)) t.role;
             });
       }
@@ -271,7 +271,7 @@ module _ (ring : Ring) (faces : ℕ → Face Value) (a : ℕ) (seat : position_o
           face = g;
           grows = v.voted.grows;
           ties = did_goes_on g (votes_for ring vote first) link (with_bit mask a) vote next (record {
-            done = done_votes ring faces a start kept f g first vote v.reached v.voted said.ended p.done;
+            done = done_votes ring faces a start kept f g first vote v.reached v.voted said.ended (local_at f first p) p.done;
             role = subst (λ r. RoleTies (acceptors ring) (seen faces a g) g r) (sym (votes_role ring vote first))
                 (RoleTies-more (acceptors ring) (seen faces a f) (seen faces a g) (seen_more (acceptors ring) faces a f g v.voted.grows) f g first.part.coordinator.role v.voted.grows v.leads v.voted.promise p.role);
           });

@@ -1,5 +1,5 @@
 -- What a rule has made so far, and the words that add to it.
-use Rattle.std.proofs.Common.{◌≡◌, ℕ, ◌-◌, ◌<◌, ◌≤◌, Bool, true, false, List, [], ◌∷◌, Option, Some, None, refl, sym, ◌∙◌, ap, subst, arith}
+use Rattle.std.proofs.Common.{◌≡◌, ℕ, ◌-◌, ◌<◌, ◌≤◌, Bool, true, false, List, [], ◌∷◌, Option, Some, None, refl, sym, ◌∙◌, ap, subst, arith, ◌⊎◌, inl, inr}
 use Rattle.std.specs.Prelude.{◌==◌, nat_eq, nat_lt, if◌then◌else◌, ◌||◌}
 use Rattle.std.specs.List.{AllByRecursion}
 use Rattle.std.proofs.lemmas.Bool.Decides.{nat_tests}
@@ -9,6 +9,10 @@ use Rattle.mrp_types.specs.declared.id.TheConstants.{END}
 use Rattle.mrp_types.specs.declared.value.Value.{Value}
 use Rattle.mrp_types.specs.declared.voted.Voted.{Voted}
 use Rattle.mrp_types.specs.declared.voted.Decided.{Decided}
+use Rattle.quorums.specs.Groups.{Has}
+use Rattle.ring_safety.specs.Invariant.{Local}
+use Rattle.vote_state.proofs.HeldLemmas.{held_meaning}
+use Rattle.vote_state.specs.declared.cast.Cast.{Cast}
 use Rattle.vote_state.specs.declared.ring.RingState.{RingState}
 use Rattle.vote_state.specs.declared.change.Change.{Change}
 use Rattle.vote_state.specs.declared.change.Change.TheVariants as change
@@ -16,22 +20,22 @@ use Rattle.vote_state.specs.Ranges.{are_held}
 use Rattle.vote_state.specs.State.{with_vote}
 use Rattle.frames.specs.declared.body.Body.{Body}
 use Rattle.frames.specs.declared.sent.Sent.{Sent}
-use Rattle.ring_reach.specs.Reach.{Reaches, seen, HasVoted}
+use Rattle.ring_reach.specs.Reach.{Reaches, seen, HasVoted, IsAmong, proposal}
 use Rattle.ring_reach.proofs.Reaching.{reach_none, reach_one, reach_both, seen_more}
 use Rattle.protocol.specs.Parts.{Ring, Role, Idle, Active, Part, Did}
 use Rattle.protocol.specs.Rings.{sends, is_beyond}
 use Rattle.protocol.specs.Doing.{nothing_done, with_change, with_frames, with_learned, with_kept}
 use Rattle.protocol.specs.Acceptor.{idle_below, promised_part, promises, votes_for}
 use Rattle.ring_tables.specs.Done.{DoneTies, DidTies, After}
-use Rattle.ring_safety.specs.Faces.{Face}
+use Rattle.ring_safety.specs.Faces.{Face, Proposal}
 use Rattle.ring_safety.specs.Deeds.{Promises, done}
 use Rattle.ring_safety.specs.Rules.{Grows}
 use Rattle.ring_safety.proofs.Local.{Grows-refl}
 use Rattle.ring_safety.proofs.Deeds.{Grows-done}
-use Rattle.ring_kept.specs.Kept.{KeptTies, kept_by}
+use Rattle.ring_kept.specs.Kept.{KeptTies, kept_by, told_of}
 use Rattle.ring_kept.proofs.Keeping.{kept_promised, kept_voted, kept_held, not_held_lt, kept_after_more}
-use Rattle.ring_tables.specs.Ties.{acceptors, IsRangeChosen, RoleTies, LearnerTies, PartTies, BodySaid, IsSaid, IsRecorded}
-use Rattle.ring_tables.proofs.More.{mapped, appended, IsRangeChosen-more, LearnerTies-more, all_said_more, all_recorded_more}
+use Rattle.ring_tables.specs.Ties.{acceptors, IsRangeChosen, RoleTies, LearnerTies, PartTies, BodySaid, IsSaid, IsVotedIn, AreRecorded}
+use Rattle.ring_tables.proofs.More.{mapped, appended, IsRangeChosen-more, LearnerTies-more, all_said_more, none_recorded, recorded_on, recorded_both}
 
 same_number : (x : ℕ) → nat_eq x x ≡ true
 same_number x = grind (arith, nat_tests)
@@ -48,7 +52,7 @@ said_sends ring now (Some to) b s = go (to.0 == ring.own.0 || is_beyond b)
 module _ (ring : Ring) (faces : ℕ → Face Value) (a : ℕ) (start : Face Value) (kept : RingState) where
   pub did_none : (part : Part) → PartTies (acceptors ring) (seen faces a start) start part → kept ≡ part.kept → DidTies ring faces a start kept start (nothing_done part)
   did_none part t e = record {
-    done = record { reached = reach_none (acceptors ring) faces a start; kept = t.kept; learner = t.learner; changes = e; frames = tt; learned = tt; recorded = tt };
+    done = record { reached = reach_none (acceptors ring) faces a start; kept = t.kept; learner = t.learner; changes = e; frames = tt; learned = tt; recorded = none_recorded ring.id start };
     role = t.role;
   }
 
@@ -92,8 +96,8 @@ module _ (ring : Ring) (faces : ℕ → Face Value) (a : ℕ) (start : Face Valu
     more = seen_more (acceptors ring) faces a f g grows
 
     -- what was said, learned and reached
-    pub done_on : KeptTies g did.part.kept → DoneTies ring faces a start kept g did
-    done_on k = record {
+    pub done_on : ((c : Proposal Value) → Has g.casts c → Has f.casts c) → KeptTies g did.part.kept → DoneTies ring faces a start kept g did
+    done_on same k = record {
       reached = reach_both (acceptors ring) faces a start f g t.reached reach;
       kept = k;
       learner = LearnerTies-more (acceptors ring) (seen faces a f) (seen faces a g) more did.part.learner t.learner;
@@ -101,10 +105,10 @@ module _ (ring : Ring) (faces : ℕ → Face Value) (a : ℕ) (start : Face Valu
       frames = all_said_more ring (seen faces a f) (seen faces a g) more did.frames t.frames;
       learned = mapped (IsRangeChosen (acceptors ring) (seen faces a f)) (IsRangeChosen (acceptors ring) (seen faces a g))
           (IsRangeChosen-more (acceptors ring) (seen faces a f) (seen faces a g) more) did.learned t.learned;
-      recorded = all_recorded_more ring f g grows did.changes t.recorded;
+      recorded = recorded_on ring start f g did.changes grows same t.recorded;
     }
 
-    pub done_changed : (c : Change) (part : Part) → IsRecorded ring.id g c → kept_by ring.id c did.part.kept ≡ part.kept → part.learner ≡ did.part.learner → KeptTies g part.kept
+    pub done_changed : (c : Change) (part : Part) → AreRecorded ring.id f g (c ∷ []) → kept_by ring.id c did.part.kept ≡ part.kept → part.learner ≡ did.part.learner → KeptTies g part.kept
         → DoneTies ring faces a start kept g (with_change c part did)
     done_changed c part is e same k = record {
       reached = reach_both (acceptors ring) faces a start f g t.reached reach;
@@ -115,7 +119,7 @@ module _ (ring : Ring) (faces : ℕ → Face Value) (a : ℕ) (start : Face Valu
       frames = all_said_more ring (seen faces a f) (seen faces a g) more did.frames t.frames;
       learned = mapped (IsRangeChosen (acceptors ring) (seen faces a f)) (IsRangeChosen (acceptors ring) (seen faces a g))
           (IsRangeChosen-more (acceptors ring) (seen faces a f) (seen faces a g) more) did.learned t.learned;
-      recorded = appended (IsRecorded ring.id g) did.changes (c ∷ []) (all_recorded_more ring f g grows did.changes t.recorded) (is, tt);
+      recorded = recorded_both ring start f g did.changes (c ∷ []) grows t.recorded is;
     }
 
   -- ---- promises
@@ -137,7 +141,7 @@ module _ (ring : Ring) (faces : ℕ → Face Value) (a : ℕ) (start : Face Valu
             face = g;
             grows = grows;
             ties = record {
-              done = done_changed f g did (reach_one (acceptors ring) faces a f (Promises ballot 0 0) may) grows t.done (change.Promise ring.id ballot) (promised_part ballot did.part) (λ r. omega arith)
+              done = done_changed f g did (reach_one (acceptors ring) faces a f (Promises ballot 0 0) may) grows t.done (change.Promise ring.id ballot) (promised_part ballot did.part) (record { stand = ((λ r. omega arith), tt); voted = λ c h. inl h })
                   (rw (same_number ring.id.0) refl) refl (kept_promised f did.part.kept ballot 0 0 t.done.kept);
               role = idle did.part.coordinator.role t.role ne;
             };
@@ -155,14 +159,34 @@ module _ (ring : Ring) (faces : ℕ → Face Value) (a : ℕ) (start : Face Valu
   -- ---- votes
 
   pub done_votes : (f g : Face Value) (did : Did) (vote : Voted) → Reaches (acceptors ring) faces a f g → HasVoted f g vote.ballot vote.lo (vote.hi - vote.lo) vote.value → vote.hi ≤ END
-      → DoneTies ring faces a start kept f did → DoneTies ring faces a start kept g (votes_for ring vote did)
-  done_votes f g did vote reach voted top t = go (are_held vote did.part.kept.votes) refl
+      → Local (acceptors ring) faces a f → DoneTies ring faces a start kept f did → DoneTies ring faces a start kept g (votes_for ring vote did)
+  done_votes f g did vote reach voted top local t = go (are_held vote did.part.kept.votes) refl
     where
+      -- a vote that is held was cast
+      again : are_held vote did.part.kept.votes ≡ true → (c : Proposal Value) → Has f.casts c ⊎ IsAmong vote.ballot vote.lo (vote.hi - vote.lo) vote.value c → Has f.casts c
+      again e c (inl h) = h
+      again e c (inr m) =
+          let from = m.from in
+          let to = m.to in
+          let held = (held_meaning true vote did.part.kept.votes (sym e)).0 refl c.instance from (omega arith) in
+          let cast : Has f.casts (proposal vote.ballot c.instance vote.value) =
+          local.held_cast c.instance (record { ballot = vote.ballot; value = vote.value }) (t.kept.votes c.instance ∙ ap (λ (o : Option Cast). told_of o) held) in
+          subst (λ (b : ℕ). Has f.casts (proposal b c.instance c.value)) (sym m.of_ballot)
+          (subst (λ (v : Value). Has f.casts (proposal vote.ballot c.instance v)) (sym m.of_value) cast)
+
+      once : (c : Proposal Value) → Has f.casts c ⊎ IsAmong vote.ballot vote.lo (vote.hi - vote.lo) vote.value c → Has f.casts c ⊎ IsVotedIn ring.id (change.Vote ring.id vote ∷ []) c
+      once c (inl h) = inl h
+      once c (inr m) =
+          let from = m.from in
+          let to = m.to in
+          inr (record { vote = vote; there = inl refl; of_ballot = m.of_ballot; from = m.from; to = omega arith; of_value = m.of_value })
+
       go : (b : Bool) → are_held vote did.part.kept.votes ≡ b
           → DoneTies ring faces a start kept g (if b then did else with_change (change.Vote ring.id vote) (with_kept (with_vote vote did.part.kept) did.part) did)
-      go true e = done_on f g did reach voted.grows t (kept_held f g did.part.kept vote t.kept voted e)
+      go true e = done_on f g did reach voted.grows t (λ c h. again e c (voted.new c h)) (kept_held f g did.part.kept vote t.kept voted e)
       go false e =
-          done_changed f g did reach voted.grows t (change.Vote ring.id vote) (with_kept (with_vote vote did.part.kept) did.part) (λ r i x y. voted.cast i (omega arith) (omega arith)) (rw (same_number ring.id.0) refl) refl
+          done_changed f g did reach voted.grows t (change.Vote ring.id vote) (with_kept (with_vote vote did.part.kept) did.part)
+          (record { stand = ((λ r i x y. voted.cast i (omega arith) (omega arith)), tt); voted = λ c h. once c (voted.new c h) }) (rw (same_number ring.id.0) refl) refl
           (kept_voted f g did.part.kept vote t.kept voted (not_held_lt vote did.part.kept e) top)
 
 -- ---- what these words leave alone

@@ -1,6 +1,9 @@
 -- What stays so as faces grow.
-use Rattle.std.proofs.Common.{◌≡◌, ℕ, ◌≤◌, List, [], ◌∷◌, ◌++◌, ◌∙◌, arith}
+use Rattle.std.proofs.Common.{◌≡◌, ℕ, ◌≤◌, List, [], ◌∷◌, ◌++◌, ◌∙◌, arith, ◌⊎◌, inl, inr}
 use Rattle.std.specs.List.{AllByRecursion}
+use Rattle.quorums.specs.Groups.{Has}
+use Rattle.ring_safety.proofs.Local.{Grows-refl}
+use Rattle.mrp_types.specs.declared.id.RingId.{RingId}
 use Rattle.mrp_types.specs.declared.id.NodeId.{NodeId}
 use Rattle.mrp_types.specs.declared.id.Party.{Party}
 use Rattle.mrp_types.specs.declared.id.Party.TheVariants.{Node, Client}
@@ -19,7 +22,7 @@ use Rattle.protocol.specs.Lines.{Line, Learn}
 use Rattle.ring_safety.specs.Faces.{Proposal, Face, owner}
 use Rattle.ring_safety.specs.Worlds.{Chosen}
 use Rattle.ring_safety.specs.Rules.{Grows}
-use Rattle.ring_tables.specs.Ties.{acceptors, IsChosen, IsRangeChosen, Reports, IsOutstanding, CampaignTies, RoleTies, LearnerTies, PromiseSaid, AcceptSaid, BodySaid, SaidBy, IsSaid, IsTold, IsRecorded}
+use Rattle.ring_tables.specs.Ties.{acceptors, IsChosen, IsRangeChosen, Reports, IsOutstanding, CampaignTies, RoleTies, LearnerTies, PromiseSaid, AcceptSaid, BodySaid, SaidBy, IsSaid, IsTold, IsRecorded, IsVotedIn, AreRecorded}
 
 pub mapped : {T : Type 0} (P Q : T → Type 0) → ((x : T) → P x → Q x) → (xs : List T) → AllByRecursion P xs → AllByRecursion Q xs
 mapped P Q h [] all = tt
@@ -129,3 +132,64 @@ IsRecorded-more ring f g grows other s = tt
 
 pub all_recorded_more : (ring : Ring) (f g : Face Value) → Grows f g → (cs : List Change) → AllByRecursion (IsRecorded ring.id f) cs → AllByRecursion (IsRecorded ring.id g) cs
 all_recorded_more ring f g grows cs s = mapped (IsRecorded ring.id f) (IsRecorded ring.id g) (IsRecorded-more ring f g grows) cs s
+
+-- ---- votes that were recorded
+
+has_first : {T : Type 0} (xs ys : List T) (x : T) → Has xs x → Has (xs ++ ys) x
+has_first [] ys x h = absurd h
+has_first (y ∷ xs) ys x (inl e) = inl e
+has_first (y ∷ xs) ys x (inr h) = inr (has_first xs ys x h)
+
+has_second : {T : Type 0} (xs ys : List T) (x : T) → Has ys x → Has (xs ++ ys) x
+has_second [] ys x h = h
+has_second (y ∷ xs) ys x h = inr (has_second xs ys x h)
+
+voted_first : (id : RingId) (xs ys : List Change) (c : Proposal Value) → IsVotedIn id xs c → IsVotedIn id (xs ++ ys) c
+voted_first id xs ys c v = record {
+  vote = v.vote;
+  there = has_first xs ys (change.Vote id v.vote) v.there;
+  of_ballot = v.of_ballot;
+  from = v.from;
+  to = v.to;
+  of_value = v.of_value;
+}
+
+voted_second : (id : RingId) (xs ys : List Change) (c : Proposal Value) → IsVotedIn id ys c → IsVotedIn id (xs ++ ys) c
+voted_second id xs ys c v = record {
+  vote = v.vote;
+  there = has_second xs ys (change.Vote id v.vote) v.there;
+  of_ballot = v.of_ballot;
+  from = v.from;
+  to = v.to;
+  of_value = v.of_value;
+}
+
+pub none_recorded : (id : RingId) (f : Face Value) → AreRecorded id f f []
+none_recorded id f = record { stand = tt; voted = λ c h. inl h }
+
+-- the face goes on, and casts no vote that it hadn't cast
+pub recorded_on : (ring : Ring) (start f g : Face Value) (cs : List Change) → Grows f g → ((c : Proposal Value) → Has g.casts c → Has f.casts c) → AreRecorded ring.id start f cs
+    → AreRecorded ring.id start g cs
+recorded_on ring start f g cs grows same r = record { stand = all_recorded_more ring f g grows cs r.stand; voted = λ c h. r.voted c (same c h) }
+
+-- and with more changes
+pub recorded_both : (ring : Ring) (start f g : Face Value) (xs ys : List Change) → Grows f g → AreRecorded ring.id start f xs → AreRecorded ring.id f g ys
+    → AreRecorded ring.id start g (xs ++ ys)
+recorded_both ring start f g xs ys grows r s = record {
+  stand = appended (IsRecorded ring.id g) xs ys (all_recorded_more ring f g grows xs r.stand) s.stand;
+  voted = λ c h. go c (s.voted c h);
+}
+  where
+    early : (c : Proposal Value) → Has start.casts c ⊎ IsVotedIn ring.id xs c → Has start.casts c ⊎ IsVotedIn ring.id (xs ++ ys) c
+    early c (inl h) = inl h
+    early c (inr v) = inr (voted_first ring.id xs ys c v)
+
+    go : (c : Proposal Value) → Has f.casts c ⊎ IsVotedIn ring.id ys c → Has start.casts c ⊎ IsVotedIn ring.id (xs ++ ys) c
+    go c (inl h) = early c (r.voted c h)
+    go c (inr v) = inr (voted_second ring.id xs ys c v)
+
+-- changes of other rings record no vote of this one, and take none away
+pub recorded_apart : (ring : Ring) (start f : Face Value) (xs ys : List Change) → AllByRecursion (IsRecorded ring.id f) ys → AreRecorded ring.id start f xs
+    → AreRecorded ring.id start f (xs ++ ys)
+recorded_apart ring start f xs ys stand r =
+    recorded_both ring start f f xs ys (Grows-refl f) r (record { stand = stand; voted = λ c h. inl h })

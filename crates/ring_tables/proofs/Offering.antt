@@ -213,7 +213,7 @@ module _ (ring : Ring) (faces : ℕ → Face Value) (a : ℕ) (seat : position_o
       grows = proposed.voted.grows;
       ties = did_goes_on ring faces a seat within all start local kept g (votes_for ring (vote_of campaign.ballot range) offered) link (own_mask ring) (vote_of campaign.ballot range) said
           (record {
-            done = done_votes ring faces a start kept f g offered (vote_of campaign.ballot range) proposed.reached proposed.voted hi_ended done_before;
+            done = done_votes ring faces a start kept f g offered (vote_of campaign.ballot range) proposed.reached proposed.voted hi_ended (Local-reach (acceptors ring) faces a all start f local done_before.reached) done_before;
             role = subst (λ r. RoleTies (acceptors ring) (seen faces a g) g r) (sym (votes_role ring (vote_of campaign.ballot range) offered)) ties_after;
           });
     }

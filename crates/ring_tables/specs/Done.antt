@@ -7,7 +7,7 @@ use Rattle.vote_state.specs.declared.ring.RingState.{RingState}
 use Rattle.ring_reach.specs.Reach.{Reaches, seen}
 use Rattle.protocol.specs.Parts.{Ring, Part, Did}
 use Rattle.protocol.specs.Rings.{is_own, position_of}
-use Rattle.ring_tables.specs.Ties.{acceptors, IsRangeChosen, RoleTies, LearnerTies, PartTies, IsSaid, IsRecorded}
+use Rattle.ring_tables.specs.Ties.{acceptors, IsRangeChosen, RoleTies, LearnerTies, PartTies, IsSaid, AreRecorded}
 use Rattle.ring_safety.specs.Faces.{Face}
 use Rattle.ring_safety.specs.Invariant.{Local}
 use Rattle.ring_safety.specs.Rules.{Grows}
@@ -23,7 +23,7 @@ pub record DoneTies (ring : Ring) (faces : ℕ → Face Value) (a : ℕ) (start 
   pub changes : kept_after ring.id did.changes base ≡ did.part.kept
   pub frames : AllByRecursion (IsSaid ring (seen faces a f)) did.frames
   pub learned : AllByRecursion (IsRangeChosen (acceptors ring) (seen faces a f)) did.learned
-  pub recorded : AllByRecursion (IsRecorded ring.id f) did.changes
+  pub recorded : AreRecorded ring.id start f did.changes
 
 -- From `start`, with `kept` of the ring, the rule has come to the face f and made this.
 pub record DidTies (ring : Ring) (faces : ℕ → Face Value) (a : ℕ) (start : Face Value) (kept : RingState) (f : Face Value) (did : Did) : Type 0 where

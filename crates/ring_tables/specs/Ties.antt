@@ -1,5 +1,5 @@
 -- How what a node keeps of a ring, and what nodes sent, stand for faces of the ring's machine. All of it speaks of one ring.
-use Rattle.std.specs.Prelude.{◌≡◌, ℕ, ◌<◌, ◌≤◌, true, List, length, max, slice_index, Some, None}
+use Rattle.std.specs.Prelude.{◌≡◌, ◌⊎◌, ℕ, ◌<◌, ◌≤◌, true, List, length, max, slice_index, Some, None}
 use Rattle.std.specs.List.{AllByRecursion}
 use Rattle.mrp_types.specs.declared.id.NodeId.{NodeId}
 use Rattle.mrp_types.specs.declared.id.RingId.{RingId}
@@ -22,7 +22,7 @@ use Rattle.ring_reach.specs.Reach.{proposal}
 use Rattle.protocol.specs.Parts.{Ring, Campaign, Role, Idle, Active, Learner, Part}
 use Rattle.protocol.specs.Rings.{position_of, has_bit}
 use Rattle.protocol.specs.Lines.{Line, Learn}
-use Rattle.ring_safety.specs.Faces.{Promise, Face, rank, owner}
+use Rattle.ring_safety.specs.Faces.{Proposal, Promise, Face, rank, owner}
 use Rattle.ring_safety.specs.Deeds.{Serves}
 use Rattle.ring_safety.specs.Worlds.{Chosen}
 use Rattle.ring_kept.specs.Kept.{told_of, KeptTies}
@@ -145,3 +145,17 @@ abbrev pub IsRecorded : RingId → Face Value → Change → Type 0
 IsRecorded id f (change.Promise r ballot) = r.0 ≡ id.0 → ballot ≤ f.promise
 IsRecorded id f (change.Vote r vote) = r.0 ≡ id.0 → (i : ℕ) → vote.lo ≤ i → i < vote.hi → Has f.casts (proposal vote.ballot i vote.value)
 IsRecorded id f other = Unit {0}
+
+-- a vote that changes record
+pub record IsVotedIn (id : RingId) (changes : List Change) (c : Proposal Value) : Type 0 where
+  pub vote : Voted
+  pub there : Has changes (change.Vote id vote)
+  pub of_ballot : c.ballot ≡ vote.ballot
+  pub from : vote.lo ≤ c.instance
+  pub to : c.instance < vote.hi
+  pub of_value : c.value ≡ vote.value
+
+-- From the face `start` on, what was recorded stands in the face f, and each vote that was cast on the way was recorded.
+pub record AreRecorded (id : RingId) (start f : Face Value) (changes : List Change) : Type 0 where
+  pub stand : AllByRecursion (IsRecorded id f) changes
+  pub voted : (c : Proposal Value) → Has f.casts c → Has start.casts c ⊎ IsVotedIn id changes c
