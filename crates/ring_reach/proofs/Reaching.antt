@@ -89,14 +89,15 @@ module _ {V : Type 0} (n : ℕ) (faces : ℕ → Face V) (a : ℕ) where
     outside = λ i x. refl;
     cast = λ i x y. absurd (omega arith);
     new = λ c h. inl h;
+    promises = refl;
     grows = Grows-refl f;
   }
 
   -- g has cast the first vote, and h the later ones
-  one_more_voted : (f g h : Face V) (ballot lo size : ℕ) (value : V) → g.promise ≡ f.promise → g.trim ≡ f.trim → Grows f g
+  one_more_voted : (f g h : Face V) (ballot lo size : ℕ) (value : V) → g.promise ≡ f.promise → g.trim ≡ f.trim → g.promises ≡ f.promises → Grows f g
       → ((i : ℕ) → g.votes i ≡ voted f.votes lo (record { ballot = ballot; value = value }) i) → Has g.casts (proposal ballot lo value)
       → ((c : Proposal V) → Has g.casts c → Has (proposal ballot lo value ∷ f.casts) c) → HasVoted g h ballot (suc lo) size value → HasVoted f h ballot lo (suc size) value
-  one_more_voted f g h ballot lo size value promise trim grows votes cast one r = record {
+  one_more_voted f g h ballot lo size value promise trim told grows votes cast one r = record {
     promise = r.promise ∙ promise;
     trim = r.trim ∙ trim;
     inside = λ i x y. elim (cases_eq i lo) [
@@ -113,6 +114,7 @@ module _ {V : Type 0} (n : ℕ) (faces : ℕ → Face V) (a : ℕ) where
       | inr ne ↦ r.cast i (omega arith) (omega arith)
     ];
     new = λ c x. by (r.new c x);
+    promises = r.promises ∙ told;
     grows = Grows-trans grows r.grows;
   }
     where
@@ -140,7 +142,7 @@ module _ {V : Type 0} (n : ℕ) (faces : ℕ → Face V) (a : ℕ) where
       record {
         face = r.face;
         reached = reach_first f r.face (Votes ballot lo value) may r.reached;
-        voted = one_more_voted f g r.face ballot lo size value (sym promised) refl grows (λ i. refl) (inl refl) (λ c h. h) r.voted;
+        voted = one_more_voted f g r.face ballot lo size value (sym promised) refl refl grows (λ i. refl) (inl refl) (λ c h. h) r.voted;
         leads = r.leads;
       }
 
@@ -175,7 +177,7 @@ module _ {V : Type 0} (n : ℕ) (faces : ℕ → Face V) (a : ℕ) where
       record {
         face = r.face;
         reached = reach_first f r.face (Proposes ballot lo value) may r.reached;
-        voted = one_more_voted f g r.face ballot lo size value refl refl grows (λ i. refl) (inl refl) (λ c h. h) r.voted;
+        voted = one_more_voted f g r.face ballot lo size value refl refl refl grows (λ i. refl) (inl refl) (λ c h. h) r.voted;
         next = r.next;
         leads = r.leads;
         passed = omega arith;

@@ -143,6 +143,7 @@ module _ (ring : Ring) (faces : ℕ → Face Value) (a : ℕ) (seat : position_o
                   (without_finished (with_kept (with_trim trim did.part.kept) did.part)) (record { stand = (tt, tt); voted = λ c h. inl h }) (rw (same_number ring.id.0) refl) refl (kept_trimmed f did.part.kept trim t.done.kept);
               role = unfinished_ties (acceptors ring) (seen faces a g) g trim did.part.learner.held did.part.coordinator.role
                   (RoleTies-more (acceptors ring) (seen faces a f) (seen faces a g) (seen_more (acceptors ring) faces a f g grows) f g did.part.coordinator.role grows refl refl t.role);
+              told = t.told;
             };
           }
 
@@ -211,6 +212,7 @@ module _ (ring : Ring) (faces : ℕ → Face Value) (a : ℕ) (seat : position_o
                   ];
                   ordered = reports_ordered (slice_index campaign.covered k) page.votes campaign.reports r.ordered;
                 };
+                told = t.told;
               })
 
   pub trims_above : (trim : ℕ) (did : Did) → trim ≤ (trims_to ring trim did).part.kept.trim

@@ -138,7 +138,7 @@ module _ (ring : Ring) (faces : ℕ → Face Value) (a : ℕ) (start : Face Valu
   unfolding chosen
   chosen_ties ranges all =
       let d = none.done in
-      record { done = record { reached = d.reached; kept = d.kept; learner = d.learner; changes = d.changes; frames = tt; learned = all; recorded = d.recorded }; role = none.role }
+      record { done = record { reached = d.reached; kept = d.kept; learner = d.learner; changes = d.changes; frames = tt; learned = all; recorded = d.recorded }; role = none.role; told = none.told }
 
   -- Refuse
   pub refused_ties : (ballot promise : ℕ) → DidTies ring faces a start kept start (refused ring part ballot promise)
@@ -148,6 +148,7 @@ module _ (ring : Ring) (faces : ℕ → Face Value) (a : ℕ) (start : Face Valu
       record {
         done = record { reached = d.reached; kept = d.kept; learner = d.learner; changes = d.changes; frames = tt; learned = tt; recorded = d.recorded };
         role = role part.coordinator.role t.role;
+        told = none.told;
       }
     where
       role : (r : Role) → RoleTies (acceptors ring) (seen faces a start) start r → RoleTies (acceptors ring) (seen faces a start) start (role_refused ballot r)
@@ -216,7 +217,7 @@ module _ (ring : Ring) (faces : ℕ → Face Value) (a : ℕ) (seat : position_o
           else proposes ring link (with_campaign (with_pending (record { client = client; seq = seq; command = command }) campaign) part))
       by_test campaign r true c d =
           let u = untouched.done in
-          stays _ (record { done = record { reached = u.reached; kept = u.kept; learner = u.learner; changes = u.changes; frames = u.frames; learned = u.learned; recorded = u.recorded }; role = untouched.role })
+          stays _ (record { done = record { reached = u.reached; kept = u.kept; learner = u.learner; changes = u.changes; frames = u.frames; learned = u.learned; recorded = u.recorded }; role = untouched.role; told = untouched.told })
       by_test campaign r false true d = proposing_now part refl t
       by_test campaign r false false true = stays _ untouched
       by_test campaign r false false false =

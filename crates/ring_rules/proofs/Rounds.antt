@@ -35,12 +35,12 @@ module _ (ring : Ring) (faces : ℕ → Face Value) (a : ℕ) (seat : position_o
   did_line : (f : Face Value) (did : Did) (line : _) → DidTies ring faces a start kept f did → DidTies ring faces a start kept f (with_line line did)
   did_line f did line t =
       let d = t.done in
-      record { done = record { reached = d.reached; kept = d.kept; learner = d.learner; changes = d.changes; frames = d.frames; learned = d.learned; recorded = d.recorded }; role = t.role }
+      record { done = record { reached = d.reached; kept = d.kept; learner = d.learner; changes = d.changes; frames = d.frames; learned = d.learned; recorded = d.recorded }; role = t.role; told = t.told }
 
   pub did_rounds : (f : Face Value) (did : Did) (rounds : Rounds) → DidTies ring faces a start kept f did → DidTies ring faces a start kept f (with_part (with_rounds rounds did.part) did)
   did_rounds f did rounds t =
       let d = t.done in
-      record { done = record { reached = d.reached; kept = d.kept; learner = d.learner; changes = d.changes; frames = d.frames; learned = d.learned; recorded = d.recorded }; role = t.role }
+      record { done = record { reached = d.reached; kept = d.kept; learner = d.learner; changes = d.changes; frames = d.frames; learned = d.learned; recorded = d.recorded }; role = t.role; told = t.told }
 
   stays : (f : Face Value) (did : Did) → DidTies ring faces a start kept f did → After ring faces a start kept f did
   stays f did t = record { face = f; grows = Grows-refl f; ties = t }

@@ -212,7 +212,7 @@ module _ (ring : Ring) (faces : ℕ → Face Value) (a : ℕ) (s : Seats ring a)
 
   pub ruled_prepares : (from : NodeId) (ballot lo : ℕ) → Ruled ring faces a f part.kept (prepares ring part from ballot lo)
   ruled_prepares from ballot lo =
-      ruled (prepares ring part from ballot lo) (prepares_ties ring faces a s.seat s.within all f local part.kept part refl t from ballot lo) (settled_prepares ring part from ballot lo settled)
+      ruled (prepares ring part from ballot lo) (prepares_ties ring faces a s.seat s.within all f local part.kept part refl t s.alone from ballot lo) (settled_prepares ring part from ballot lo settled)
 
   pub ruled_accepts : (link : Link) (ballot lo hi mask : ℕ) (value : Value) → AcceptSaid (acceptors ring) faces ballot lo hi mask value
       → Ruled ring faces a f part.kept (accepts ring link part ballot lo hi mask value)

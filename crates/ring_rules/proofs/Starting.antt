@@ -1,5 +1,5 @@
 -- A start of a ballot: the promise to itself, and a coordinator that is covered by it alone.
-use Rattle.std.proofs.Common.{◌≡◌, inl, inr, ℕ, ◌<◌, ◌≤◌, ◌^◌, Bool, true, false, List, [], ◌∷◌, Option, Some, refl, sym, ◌∙◌, ap, subst, arith, get_or}
+use Rattle.std.proofs.Common.{◌≡◌, ◌⊎◌, inl, inr, ℕ, ◌<◌, ◌≤◌, ◌^◌, Bool, true, false, List, [], ◌∷◌, Option, Some, refl, sym, ◌∙◌, ap, subst, arith, get_or}
 use Rattle.std.specs.Prelude.{◌==◌, nat_eq, nat_le, if◌then◌else◌, slice_index}
 use Rattle.std.specs.List.{AllByRecursion}
 use Rattle.std.proofs.lemmas.Bool.{cases_lt, cases_eq, false_from_ne_true}
@@ -37,7 +37,7 @@ use Rattle.ring_safety.proofs.Local.{Grows-refl, Grows-trans}
 use Rattle.ring_safety.proofs.Deeds.{Grows-done}
 use Rattle.ring_kept.specs.Kept.{told_of, KeptTies}
 use Rattle.ring_tables.specs.Ties.{acceptors, Reports, CampaignTies, PartTies, BodySaid, IsSaid}
-use Rattle.ring_tables.proofs.More.{appended}
+use Rattle.ring_tables.proofs.More.{appended, told_on}
 use Rattle.ring_tables.specs.Done.{DoneTies, DidTies, After}
 use Rattle.ring_tables.proofs.Doing.{said_sends, did_none, did_frames, done_changed}
 use Rattle.ring_tables.proofs.Offering.{proposes_after_ties}
@@ -155,6 +155,11 @@ module _ (ring : Ring) (faces : ℕ → Face Value) (a : ℕ) (seat : position_o
           ordered = t.done.kept.ordered;
         }
 
+    -- the new promise is of an own ballot
+    started : (p : Promise Value) → Has g.promises p → p.low < p.high → Has f.promises p ⊎ (owner (acceptors ring) p.ballot ≡ a)
+    started p (inl e) lt = inr (subst (λ (q : Promise Value). owner (acceptors ring) q.ballot ≡ a) (sym e) owned)
+    started p (inr h) lt = inl h
+
     abbrev changed : Did
     changed = with_change (change.Promise ring.id ballot) (promised_part ballot did.part) did
 
@@ -176,6 +181,7 @@ module _ (ring : Ring) (faces : ℕ → Face Value) (a : ℕ) (seat : position_o
                   (record {
                     done = record { reached = d.reached; kept = d.kept; learner = d.learner; changes = d.changes; frames = d.frames; learned = d.learned; recorded = d.recorded };
                     role = ties;
+                    told = told_on ring a start f g did.frames started t.told;
                   });
             }
 
@@ -196,7 +202,7 @@ module _ (ring : Ring) (faces : ℕ → Face Value) (a : ℕ) (seat : position_o
           record {
             face = start;
             grows = Grows-refl start;
-            ties = record { done = record { reached = d.reached; kept = d.kept; learner = d.learner; changes = d.changes; frames = d.frames; learned = d.learned; recorded = d.recorded }; role = none.role };
+            ties = record { done = record { reached = d.reached; kept = d.kept; learner = d.learner; changes = d.changes; frames = d.frames; learned = d.learned; recorded = d.recorded }; role = none.role; told = none.told };
           }
       by_limit false =
           let least = is_least (greatest_seen part) (acceptors ring) a within in

@@ -27,19 +27,20 @@ use Rattle.protocol.specs.Learning.{with_did, Queued, queued, proposes_then, by_
 use Rattle.mrp_types.specs.declared.id.Party.{Party}
 use Rattle.mrp_types.specs.declared.id.Party.TheVariants.{Node, Client}
 use Rattle.frames.specs.declared.body.Body.{Body}
+use Rattle.frames.specs.declared.sent.Sent.{Sent}
 use Rattle.frames.specs.declared.body.Body.TheVariants as body
 use Rattle.beside_rings.specs.Beside.{IsQuiet, IsQuietSent, SameBut, AreSame, Untouched}
 use Rattle.beside_rings.proofs.Following.{Follows-all, SameBut-refl, SameBut-trans}
 use Rattle.beside_rings.proofs.Merge.{merges_untouched}
 use Rattle.ring_rules.proofs.Apart.{lines_told}
-use Rattle.ring_tables.specs.Ties.{SaidBy, AreRecorded}
+use Rattle.ring_tables.specs.Ties.{SaidBy, AreRecorded, IsToldIn, AreTold}
 use Rattle.ring_rules.specs.Ruled.{Ruled}
-use Rattle.ring_safety.specs.Faces.{Face}
+use Rattle.ring_safety.specs.Faces.{Promise, Face}
 use Rattle.ring_safety.specs.Rules.{Grows}
 use Rattle.ring_safety.proofs.Local.{Grows-refl, Grows-trans}
 use Rattle.ring_kept.specs.Kept.{KeptTies, kept_after, kept_by}
 use Rattle.ring_tables.specs.Ties.{acceptors, IsRangeChosen, RoleTies, PartTies, IsSaid, IsTold}
-use Rattle.ring_tables.proofs.More.{mapped, appended, IsRangeChosen-more, all_said_more, all_told_more, recorded_both}
+use Rattle.ring_tables.proofs.More.{mapped, appended, IsRangeChosen-more, all_said_more, all_told_more, recorded_both, told_first, told_through, told_both}
 use Rattle.beside_rings.specs.Beside.{IsNoLearn}
 use Rattle.ring_rules.proofs.Apart.{none_learned, of_none, of_proposes_after}
 use Rattle.ring_tables.specs.Done.{DidTies, After}
@@ -58,6 +59,7 @@ pub record Leaves (ring : Ring) (old new : Acting) : Type 0 where
   pub journal : new.view.journal ≡ old.view.journal
   pub changes : (base : RingState) → kept_after ring.id new.changes base ≡ kept_after ring.id old.changes base
   pub recorded : (start f : Face Value) → AreRecorded ring.id start f old.changes → AreRecorded ring.id start f new.changes
+  pub sent : (p : Promise Value) → IsToldIn ring old.frames p → IsToldIn ring new.frames p
   pub frames : (now : ℕ → Face Value) → AllByRecursion (IsSaid ring now) old.frames → AllByRecursion (IsSaid ring now) new.frames
   pub replies : (now : ℕ → Face Value) → AllByRecursion (IsSaid ring now) old.replies → AllByRecursion (IsSaid ring now) new.replies
   pub lines : (now : ℕ → Face Value) → AllByRecursion (IsTold ring now) old.lines → AllByRecursion (IsTold ring now) new.lines
@@ -68,6 +70,7 @@ Leaves-refl ring a = record {
   journal = refl;
   changes = λ base. refl;
   recorded = λ z f s. s;
+  sent = λ p t. t;
   frames = λ now s. s;
   replies = λ now s. s;
   lines = λ now s. s;
@@ -79,6 +82,7 @@ Leaves-trans ring {a} {b} {c} x y = record {
   journal = y.journal ∙ x.journal;
   changes = λ base. y.changes base ∙ x.changes base;
   recorded = λ z f s. y.recorded z f (x.recorded z f s);
+  sent = λ p t. y.sent p (x.sent p t);
   frames = λ now s. y.frames now (x.frames now s);
   replies = λ now s. y.replies now (x.replies now s);
   lines = λ now s. y.lines now (x.lines now s);
@@ -126,6 +130,7 @@ untouched_leaves ring a b u = record {
   journal = u.journal;
   changes = λ base. ap (λ (l : List Change). kept_after ring.id l base) u.changes;
   recorded = λ z f s. subst (λ (l : List Change). AreRecorded ring.id z f l) (sym u.changes) s;
+  sent = λ p t. subst (λ (l : List Sent). IsToldIn ring l p) (sym u.frames.whole) (told_first ring a.frames u.frames.more p t);
   frames = λ now s. Follows-all IsQuietSent (IsSaid ring now) a.frames b.frames (λ sent. quiet_said ring now sent.frame.from sent.frame.body) u.frames s;
   replies = λ now s. Follows-all IsQuietSent (IsSaid ring now) a.replies b.replies (λ sent. quiet_said ring now sent.frame.from sent.frame.body) u.replies s;
   lines = λ now s. Follows-all IsNoLearn (IsTold ring now) a.lines b.lines (lines_told ring now) u.lines s;
@@ -201,6 +206,7 @@ pub record OnWay (ring : Ring) (faces : ℕ → Face Value) (a : ℕ) (start : F
   pub replies : AllByRecursion (IsSaid ring (seen faces a f)) acting.replies
   pub lines : AllByRecursion (IsTold ring (seen faces a f)) acting.lines
   pub recorded : AreRecorded ring.id start f acting.changes
+  pub told : AreTold ring a start f acting.frames
   pub part : (p : RingPart) → part_at acting.view ring.id ≡ Some p → MemberTies ring faces a (ring_at j.state ring.id) P f acting.changes p
 
 pub record WayAfter (ring : Ring) (faces : ℕ → Face Value) (a : ℕ) (start : Face Value) (j : Journal) (P : Part → Type 0) (f : Face Value) (acting : Acting) : Type 0 where
@@ -253,6 +259,7 @@ module _ (ring : Ring) (faces : ℕ → Face Value) (a : ℕ) (start : Face Valu
     replies = l.replies (seen faces a f) w.replies;
     lines = l.lines (seen faces a f) w.lines;
     recorded = l.recorded start f w.recorded;
+    told = told_through ring a start f old.frames new.frames l.sent w.told;
     part = λ p is.
         let was = l.part p is in
         let m = w.part was.before was.there in
@@ -282,6 +289,7 @@ module _ (ring : Ring) (faces : ℕ → Face Value) (a : ℕ) (start : Face Valu
         lines = appended (IsTold ring (seen faces a g)) acting.lines did.lines (all_told_more ring (seen faces a f) (seen faces a g) more acting.lines w.lines)
             (none_learned ring (seen faces a g) did.lines unlearned);
         recorded = recorded_both ring start f g acting.changes did.changes grows w.recorded e.recorded;
+        told = told_both ring a start f g acting.frames did.frames w.told u.told;
         part = λ q is.
             let made : RingPart = record p { part = did.part } in
             let same : made ≡ q = put_there ring.id did.part acting.view.parts p q there is in
@@ -304,6 +312,7 @@ module _ (ring : Ring) (faces : ℕ → Face Value) (a : ℕ) (start : Face Valu
         replies = w.replies;
         lines = w.lines;
         recorded = w.recorded;
+        told = w.told;
         part = λ q is.
             let made : RingPart = record p { part = (learns ring p.part range).part } in
             let same : made ≡ q = put_there ring.id (learns ring p.part range).part acting.view.parts p q there is in
@@ -344,7 +353,7 @@ module _ (ring : Ring) (faces : ℕ → Face Value) (a : ℕ) (start : Face Valu
     then_proposes f acting w later chosen None e = record {
       face = f;
       grows = Grows-refl f;
-      way = record { reached = w.reached; journal = w.journal; kept = w.kept; frames = w.frames; replies = w.replies; lines = w.lines; recorded = w.recorded; part = λ p is. absurd (cc) };
+      way = record { reached = w.reached; journal = w.journal; kept = w.kept; frames = w.frames; replies = w.replies; lines = w.lines; recorded = w.recorded; told = w.told; part = λ p is. absurd (cc) };
       chosen = chosen;
     }
     then_proposes f acting w later chosen (Some p) e =
@@ -399,6 +408,7 @@ module _ (ring : Ring) (faces : ℕ → Face Value) (a : ℕ) (start : Face Valu
               replies = way.replies;
               lines = appended (IsTold ring (seen faces a f)) acting.lines (Learn acting.view.id ring.id range.lo range.hi range.value ∷ []) way.lines ((λ e. here), tt);
               recorded = way.recorded;
+              told = way.told;
               part = way.part;
             } in
             then_proposes f (merges config told)

@@ -310,7 +310,7 @@ module _ (config : Config) (ring : Ring) (faces : ℕ → Face Value) (a : ℕ) 
   from_goes (Node from) b said f acting w =
       let heard : Acting = record acting { view = record acting.view { link = with_heard from.0 acting.view.link } } in
       body_goes from b said f heard
-      (record { reached = w.reached; journal = w.journal; kept = w.kept; frames = w.frames; replies = w.replies; lines = w.lines; recorded = w.recorded; part = w.part })
+      (record { reached = w.reached; journal = w.journal; kept = w.kept; frames = w.frames; replies = w.replies; lines = w.lines; recorded = w.recorded; told = w.told; part = w.part })
   from_goes (Client from) (body.Submit fr hops client seq command) said f acting w = submit_goes fr hops client seq command f acting w
   from_goes (Client from) other said f acting w = stays f acting w
 

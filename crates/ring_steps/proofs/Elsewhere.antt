@@ -18,7 +18,7 @@ use Rattle.beside_rings.proofs.Following.{SameBut-refl}
 use Rattle.beside_rings.proofs.Merge.{merges_untouched}
 use Rattle.ring_kept.specs.Kept.{kept_after}
 use Rattle.ring_tables.specs.Ties.{IsSaid, IsTold}
-use Rattle.ring_tables.proofs.More.{appended, recorded_apart}
+use Rattle.ring_tables.proofs.More.{appended, recorded_apart, told_first}
 use Rattle.ring_rules.specs.Own.{IsOf}
 use Rattle.ring_rules.proofs.Apart.{changes_apart, frames_apart, records_apart, none_learned, of_none, of_proposes_after}
 
@@ -37,7 +37,7 @@ put_apart id other ne new (p ∷ parts) = go (p.ring.id.0 == other.0) refl (put_
 module _ (ring other : Ring) (ne : other.id.0 ≡ ring.id.0 → ⊥) where
   -- a part of the other ring is put
   put_leaves : (part : Part) (a : Acting) → Leaves ring a (with_part other part a)
-  put_leaves part a = record { part = λ p is. record { before = p; there = sym (put_apart ring.id other.id ne part a.view.parts) ∙ is; same = SameBut-refl p }; journal = refl; changes = λ base. refl; recorded = λ z f s. s; frames = λ now s. s; replies = λ now s. s; lines = λ now s. s }
+  put_leaves part a = record { part = λ p is. record { before = p; there = sym (put_apart ring.id other.id ne part a.view.parts) ∙ is; same = SameBut-refl p }; journal = refl; changes = λ base. refl; recorded = λ z f s. s; sent = λ p t. t; frames = λ now s. s; replies = λ now s. s; lines = λ now s. s }
 
   did_leaves : (did : Did) (a : Acting) → IsOf other did → Leaves ring a (with_did other did a)
   did_leaves did a o = record {
@@ -45,6 +45,7 @@ module _ (ring other : Ring) (ne : other.id.0 ≡ ring.id.0 → ⊥) where
     journal = refl;
     changes = λ base. kept_both ring.id a.changes did.changes base ∙ changes_apart other.id ring.id ne did.changes o.changes (kept_after ring.id a.changes base);
     recorded = λ z f s. recorded_apart ring z f a.changes did.changes (records_apart other.id ring ne f did.changes o.changes) s;
+    sent = λ p t. told_first ring a.frames did.frames p t;
     frames = λ now s. appended (IsSaid ring now) a.frames did.frames s (frames_apart other.id ring ne now did.frames o.frames);
     replies = λ now s. s;
     lines = λ now s. appended (IsTold ring now) a.lines did.lines s (none_learned ring now did.lines o.lines);
@@ -71,6 +72,7 @@ module _ (ring other : Ring) (ne : other.id.0 ≡ ring.id.0 → ⊥) where
               journal = refl;
               changes = λ base. refl;
               recorded = λ z f s. s;
+              sent = λ p t. t;
               frames = λ n s. s;
               replies = λ n s. s;
               lines = λ n s. appended (IsTold ring n) a.lines (Learn a.view.id other.id range.lo range.hi range.value ∷ []) s ((λ e. absurd (ne e)), tt);

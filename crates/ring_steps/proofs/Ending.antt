@@ -34,7 +34,7 @@ use Rattle.ring_kept.specs.Kept.{KeptTies, kept_after}
 use Rattle.ring_tables.specs.Ties.{acceptors, IsSaid, IsTold, LearnerTies, AreRecorded}
 use Rattle.ring_steps.specs.Stands.{changes_in, ViewStands, EventSaid, StepStands}
 use Rattle.ring_tables.specs.Settled.{PartFine}
-use Rattle.ring_tables.proofs.More.{appended, none_recorded}
+use Rattle.ring_tables.proofs.More.{appended, none_recorded, told_more}
 use Rattle.ring_steps.proofs.Along.{MemberTies, OnWay, WayAfter}
 use Rattle.ring_tables.specs.Done.{Seats}
 use Rattle.ring_steps.proofs.Dispatching.{from_goes, lead_goes, beats_go}
@@ -108,6 +108,7 @@ module _ (ring : Ring) (faces : ℕ → Face Value) (a : ℕ) (start : Face Valu
     replies = w.replies;
     lines = w.lines;
     recorded = w.recorded;
+    told = w.told;
     part = λ q is.
         let m = mapped_there (rebased acting.view.service) (λ p. refl) acting.view.parts ring.id q is in
         let t = w.part m.before m.there in
@@ -137,6 +138,7 @@ module _ (ring : Ring) (faces : ℕ → Face Value) (a : ℕ) (start : Face Valu
     frames = appended (IsSaid ring (seen faces a f)) acting.frames acting.replies w.frames w.replies;
     lines = w.lines;
     recorded = work acting.changes w.recorded;
+    told = told_more ring a start f acting.frames acting.replies w.told;
   }
     where
       work : (cs : List Change) → AreRecorded ring.id start f cs → AreRecorded ring.id start f (changes_in (work_of cs))
@@ -168,6 +170,7 @@ module _ (config : Config) (ring : Ring) (faces : ℕ → Face Value) (a : ℕ) 
       replies = tt;
       lines = tt;
       recorded = none_recorded ring.id start;
+      told = λ p h lt. inl h;
       part = λ p is.
           let t = v.part p (ap (λ (l : List RingPart). part_of l) (sym parts) ∙ is) in
           record { of_ring = t.of_ring; ties = t.ties; kept = sym t.kept; fine = t.fine };
@@ -197,6 +200,7 @@ module _ (config : Config) (ring : Ring) (faces : ℕ → Face Value) (a : ℕ) 
       frames = subst (λ l. AllByRecursion (IsSaid ring (seen faces a start)) l) (sym frames) tt;
       lines = lines;
       recorded = subst (λ l. AreRecorded ring.id start start l) (sym work) (none_recorded ring.id start);
+      told = λ p h lt. inl h;
     }
       where
         part_of : List RingPart → Option RingPart

@@ -1,5 +1,5 @@
 -- A node that has opened: it is Idle, it has learned nothing, and what it keeps stands for the face that its disk showed.
-use Rattle.std.proofs.Common.{◌≡◌, ℕ, ◌<◌, Bool, true, false, List, [], ◌∷◌, length, Option, Some, None, refl, sym, ◌∙◌, ap, subst, arith}
+use Rattle.std.proofs.Common.{◌≡◌, inl, ℕ, ◌<◌, Bool, true, false, List, [], ◌∷◌, length, Option, Some, None, refl, sym, ◌∙◌, ap, subst, arith}
 use Rattle.std.specs.Prelude.{◌==◌, if◌then◌else◌}
 use Rattle.std.proofs.lemmas.Bool.Decides.{nat_tests}
 use Rattle.mrp_types.specs.declared.id.NodeId.{NodeId}
@@ -61,6 +61,7 @@ module _ (config : Config) (id : NodeId) (table : RingTable) (only : IsTheOnly t
     replies = tt;
     lines = tt;
     recorded = none_recorded ring.id start;
+    told = λ p h lt. inl h;
     part = λ p is. subst (λ (x : RingPart). MemberTies ring faces a (ring_at journal.state ring.id) (PartFine ring) start [] x) (new_there config id journal.state table config.rings only p is)
         (record {
           of_ring = refl;

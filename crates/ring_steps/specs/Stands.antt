@@ -10,7 +10,7 @@ use Rattle.protocol.specs.Node.{View, RingPart, Event, Takes, Stepped, Work, Rec
 use Rattle.vote_state.specs.declared.change.Change.{Change}
 use Rattle.ring_safety.specs.Faces.{Face}
 use Rattle.ring_kept.specs.Kept.{KeptTies}
-use Rattle.ring_tables.specs.Ties.{acceptors, PartTies, SaidBy, IsSaid, IsTold, AreRecorded}
+use Rattle.ring_tables.specs.Ties.{acceptors, PartTies, SaidBy, IsSaid, IsTold, AreRecorded, AreTold}
 use Rattle.ring_tables.specs.Settled.{PartFine}
 
 pub record PartStands (ring : Ring) (now : ℕ → Face Value) (f : Face Value) (view : View) (p : RingPart) : Type 0 where
@@ -43,6 +43,7 @@ pub record StepStands (ring : Ring) (faces : ℕ → Face Value) (a : ℕ) (star
   pub frames : AllByRecursion (IsSaid ring (seen faces a face)) did.frames
   pub lines : AllByRecursion (IsTold ring (seen faces a face)) did.lines
   pub recorded : AreRecorded ring.id start face (changes_in did.work)
+  pub told : AreTold ring a start face did.frames
 
 -- ---- a deployment
 

@@ -3,6 +3,17 @@ use Rattle.std.proofs.Common.{◌≡◌, ◌⊎◌, inl, inr, ℕ, ◌-◌, ◌<
 use Rattle.std.specs.Prelude.{nat_lt, nat_le, not, if◌then◌else◌, count_ones, length}
 use Rattle.std.specs.List.{AllByRecursion}
 use Rattle.std.proofs.lemmas.Bool.{cases_lt}
+use Rattle.std.proofs.lemmas.Option.{get_or_from_slice_get, slice_get_within}
+use Rattle.std.specs.List.{slice_get}
+use Rattle.mrp_types.specs.declared.id.Party.TheVariants.{Node}
+use Rattle.frames.specs.declared.sent.Sent.{Sent}
+use Rattle.ring_safety.specs.Faces.{Promise, owner}
+use Rattle.ring_tables.specs.Ties.{IsToldIn, AreTold}
+use Rattle.ring_tables.proofs.More.{told_more, has_second}
+use Rattle.ring_tables.proofs.Doing.{done_frames, told_votes}
+use Rattle.std.proofs.Common.{◌%◌, ◌||◌, get_or}
+use Rattle.std.specs.Prelude.{◌==◌}
+use Rattle.protocol.specs.Rings.{is_own}
 use Rattle.std.proofs.lemmas.Bool.Decides.{nat_tests}
 use Rattle.mrp_types.specs.declared.id.NodeId.{NodeId}
 use Rattle.mrp_types.specs.declared.id.TheConstants.{END}
@@ -149,9 +160,9 @@ module _ (ring : Ring) (faces : ℕ → Face Value) (a : ℕ) (seat : position_o
 
   -- ---- a promise is told
 
-  pub did_tells : (f : Face Value) (did : Did) (to : NodeId) (ballot lo : ℕ) → did.part.kept.promise ≡ ballot → DidTies ring faces a start kept f did
-      → After ring faces a start kept f (tells_promise ring to ballot lo did)
-  did_tells f did to ballot lo same t =
+  pub did_tells : (f : Face Value) (did : Did) (to : NodeId) (ballot lo : ℕ) → (to.0 ≡ ring.own.0 → owner (acceptors ring) ballot ≡ a) → did.part.kept.promise ≡ ballot
+      → DidTies ring faces a start kept f did → After ring faces a start kept f (tells_promise ring to ballot lo did)
+  did_tells f did to ballot lo mine same t =
       let high : ℕ = page_end (rest f did.part.kept lo t.done.kept (local_at f did t).held_untrimmed) in
       let g : Face Value = done (Promises ballot lo high) f in
       let votes : List Voted = votes_page (ranges_of (entries_from (max lo did.part.kept.trim) did.part.kept.votes)) in
@@ -165,12 +176,45 @@ module _ (ring : Ring) (faces : ℕ → Face Value) (a : ℕ) (seat : position_o
       record {
         face = g;
         grows = grows;
-        ties = did_frames ring faces a start kept g did (sends ring (Some to) (promise_of ring ballot lo did.part.kept)) (said_sends ring (seen faces a g) (Some to) (promise_of ring ballot lo did.part.kept) said)
-            (record {
-              done = done_on ring faces a start kept f g did (reach_one (acceptors ring) faces a f (Promises ballot lo high) may) grows t.done (λ c h. h) (kept_said f did.part.kept ballot lo high same t.done.kept);
-              role = RoleTies-more (acceptors ring) (seen faces a f) (seen faces a g) (seen_more (acceptors ring) faces a f g grows) f g did.part.coordinator.role grows refl (sym (tied ∙ same)) t.role;
-            });
+        ties = record {
+          done = done_frames ring faces a start kept g did (sends ring (Some to) (promise_of ring ballot lo did.part.kept))
+              (said_sends ring (seen faces a g) (Some to) (promise_of ring ballot lo did.part.kept) said)
+              (done_on ring faces a start kept f g did (reach_one (acceptors ring) faces a f (Promises ballot lo high) may) grows t.done (λ c h. h)
+              (kept_said f did.part.kept ballot lo high same t.done.kept));
+          role = RoleTies-more (acceptors ring) (seen faces a f) (seen faces a g) (seen_more (acceptors ring) faces a f g grows) f g did.part.coordinator.role grows refl (sym (tied ∙ same)) t.role;
+          told = told;
+        };
       }
+    where
+      tails : List Voted
+      tails = rest f did.part.kept lo t.done.kept (local_at f did t).held_untrimmed
+
+      new : Promise Value
+      new = record { ballot = ballot; low = lo; high = page_end (rest f did.part.kept lo t.done.kept (local_at f did t).held_untrimmed); trim = f.trim;
+        told = page f.votes lo (page_end (rest f did.part.kept lo t.done.kept (local_at f did t).held_untrimmed)) }
+
+      frame : Sent
+      frame = record { to = Node to; frame = record { from = Node ring.own; body = promise_of ring ballot lo did.part.kept } }
+
+      -- its frame, but where the node itself is the ballot's owner
+      fresh : (b : Bool) → (to.0 == ring.own.0) ≡ b → (owner (acceptors ring) ballot ≡ a) ⊎ IsToldIn ring (did.frames ++ (if b || false then [] else frame ∷ [])) new
+      fresh true e = inl (mine (grind (arith, nat_tests)))
+      fresh false e = inr (record {
+        sent = frame;
+        there = has_second did.frames (frame ∷ []) frame (inl refl);
+        by = refl;
+        votes = votes_page (ranges_of (entries_from (max lo did.part.kept.trim) did.part.kept.votes));
+        same = ap (λ x. body.Promise ring.id ballot lo (page_end (rest f did.part.kept lo t.done.kept (local_at f did t).held_untrimmed)) x
+            (votes_page (ranges_of (entries_from (max lo did.part.kept.trim) did.part.kept.votes)))) (sym t.done.kept.trim);
+        tells = tells f did.part.kept lo t.done.kept (local_at f did t).held_untrimmed;
+      })
+
+      told : AreTold ring a start (done (Promises ballot lo (page_end (rest f did.part.kept lo t.done.kept (local_at f did t).held_untrimmed))) f)
+          (did.frames ++ sends ring (Some to) (promise_of ring ballot lo did.part.kept))
+      told p (inr h) lt = told_more ring a start f did.frames (sends ring (Some to) (promise_of ring ballot lo did.part.kept)) t.told p h lt
+      told p (inl e) lt =
+          subst (λ (q : Promise Value). Has start.promises q ⊎ ((owner (acceptors ring) q.ballot ≡ a) ⊎ IsToldIn ring (did.frames ++ sends ring (Some to) (promise_of ring ballot lo did.part.kept)) q))
+          (sym e) (inr (fresh (to.0 == ring.own.0) refl))
 
   -- ---- Prepare
 
@@ -188,20 +232,43 @@ module _ (ring : Ring) (faces : ℕ → Face Value) (a : ℕ) (seat : position_o
         stays start (tells_trim ring to part) (did_frames ring faces a start kept start (nothing_done part) (sends ring to (body.Trimmed ring.id part.kept.trim))
         (said_sends ring (seen faces a start) to (body.Trimmed ring.id part.kept.trim) tt) none)
 
-    pub prepares_ties : (from : NodeId) (ballot lo : ℕ) → After ring faces a start kept start (prepares ring part from ballot lo)
-    unfolding prepares
-    prepares_ties from ballot lo = go (not (is_node from (owner_of ring ballot))) (nat_lt ballot part.kept.promise) refl
+    -- a ballot whose owner is this node
+    own_ballot : (alone : (k : ℕ) → k < acceptors ring → is_own ring (get_or ring.acceptors k (record { 0 = 0 })) ≡ true → k ≡ a) (from : NodeId) (ballot : ℕ)
+        → not (is_node from (owner_of ring ballot)) ≡ false → from.0 ≡ ring.own.0 → owner (acceptors ring) ballot ≡ a
+    own_ballot alone from ballot is me = by_zero (ballot == 0) is
       where
-        go : (b c : Bool) → nat_lt ballot part.kept.promise ≡ c
+        by_node : (o : Option NodeId) → slice_get ring.acceptors (ballot % length ring.acceptors) ≡ o → not (is_node from o) ≡ false → owner (acceptors ring) ballot ≡ a
+        by_node None e h = absurd (cc)
+        by_node (Some node) e h =
+            let test : (from.0 == node.0) ≡ true = by_not (from.0 == node.0) h in
+            let here = get_or_from_slice_get ring.acceptors (ballot % length ring.acceptors) node (record { 0 = 0 }) e in
+            let own : is_own ring node ≡ true = grind (arith, nat_tests) in
+            alone (ballot % length ring.acceptors) (slice_get_within ring.acceptors (ballot % length ring.acceptors) node e)
+            (subst (λ (x : NodeId). is_own ring x ≡ true) (sym here) own)
+          where
+            by_not : (b : Bool) → not b ≡ false → b ≡ true
+            by_not true x = refl
+            by_not false x = absurd (cc)
+
+        by_zero : (b : Bool) → not (is_node from (if b then None else slice_get ring.acceptors (ballot % length ring.acceptors))) ≡ false → owner (acceptors ring) ballot ≡ a
+        by_zero true h = absurd (cc)
+        by_zero false h = by_node (slice_get ring.acceptors (ballot % length ring.acceptors)) refl h
+
+    pub prepares_ties : ((k : ℕ) → k < acceptors ring → is_own ring (get_or ring.acceptors k (record { 0 = 0 })) ≡ true → k ≡ a) → (from : NodeId) (ballot lo : ℕ)
+        → After ring faces a start kept start (prepares ring part from ballot lo)
+    unfolding prepares
+    prepares_ties alone from ballot lo = go (not (is_node from (owner_of ring ballot))) (nat_lt ballot part.kept.promise) refl refl
+      where
+        go : (b c : Bool) → not (is_node from (owner_of ring ballot)) ≡ b → nat_lt ballot part.kept.promise ≡ c
             → After ring faces a start kept start (if b then nothing_done part else if c then refuses ring (Some from) ballot part
             else tells_promise ring from ballot lo (promises ring ballot (nothing_done part)))
-        go true c e = stays start (nothing_done part) none
-        go false true e = refused (Some from) ballot
-        go false false e =
+        go true c h e = stays start (nothing_done part) none
+        go false true h e = refused (Some from) ballot
+        go false false h e =
             let le : part.kept.promise ≤ ballot = grind (arith, nat_tests) in
             let p : After ring faces a start kept start (promises ring ballot (nothing_done part)) = did_promises ring faces a start kept start (nothing_done part) ballot le none in
             then_after start p.face (tells_promise ring from ballot lo (promises ring ballot (nothing_done part))) p.grows
-            (did_tells p.face (promises ring ballot (nothing_done part)) from ballot lo (promises_promise ring ballot (nothing_done part)) p.ties)
+            (did_tells p.face (promises ring ballot (nothing_done part)) from ballot lo (own_ballot alone from ballot h) (promises_promise ring ballot (nothing_done part)) p.ties)
 
   -- ---- a vote goes on
 
@@ -274,6 +341,7 @@ module _ (ring : Ring) (faces : ℕ → Face Value) (a : ℕ) (seat : position_o
             done = done_votes ring faces a start kept f g first vote v.reached v.voted said.ended (local_at f first p) p.done;
             role = subst (λ r. RoleTies (acceptors ring) (seen faces a g) g r) (sym (votes_role ring vote first))
                 (RoleTies-more (acceptors ring) (seen faces a f) (seen faces a g) (seen_more (acceptors ring) faces a f g v.voted.grows) f g first.part.coordinator.role v.voted.grows v.leads v.voted.promise p.role);
+            told = told_votes ring faces a start kept f g first vote v.voted.promises p.told;
           });
         }
 

@@ -27,15 +27,15 @@ use Rattle.protocol.specs.Rings.{sends, is_beyond}
 use Rattle.protocol.specs.Doing.{nothing_done, with_change, with_frames, with_learned, with_kept}
 use Rattle.protocol.specs.Acceptor.{idle_below, promised_part, promises, votes_for}
 use Rattle.ring_tables.specs.Done.{DoneTies, DidTies, After}
-use Rattle.ring_safety.specs.Faces.{Face, Proposal}
+use Rattle.ring_safety.specs.Faces.{Promise, Face, Proposal}
 use Rattle.ring_safety.specs.Deeds.{Promises, done}
 use Rattle.ring_safety.specs.Rules.{Grows}
 use Rattle.ring_safety.proofs.Local.{Grows-refl}
 use Rattle.ring_safety.proofs.Deeds.{Grows-done}
 use Rattle.ring_kept.specs.Kept.{KeptTies, kept_by, told_of}
 use Rattle.ring_kept.proofs.Keeping.{kept_promised, kept_voted, kept_held, not_held_lt, kept_after_more}
-use Rattle.ring_tables.specs.Ties.{acceptors, IsRangeChosen, RoleTies, LearnerTies, PartTies, BodySaid, IsSaid, IsVotedIn, AreRecorded}
-use Rattle.ring_tables.proofs.More.{mapped, appended, IsRangeChosen-more, LearnerTies-more, all_said_more, none_recorded, recorded_on, recorded_both}
+use Rattle.ring_tables.specs.Ties.{acceptors, IsRangeChosen, RoleTies, LearnerTies, PartTies, BodySaid, IsSaid, IsVotedIn, AreRecorded, AreTold}
+use Rattle.ring_tables.proofs.More.{mapped, appended, IsRangeChosen-more, LearnerTies-more, all_said_more, none_recorded, recorded_on, recorded_both, told_more, told_on}
 
 same_number : (x : ℕ) → nat_eq x x ≡ true
 same_number x = grind (arith, nat_tests)
@@ -49,11 +49,19 @@ said_sends ring now (Some to) b s = go (to.0 == ring.own.0 || is_beyond b)
     go true = tt
     go false = (s, tt)
 
+pub votes_frames : (ring : Ring) (vote : Voted) (did : Did) → (votes_for ring vote did).frames ≡ did.frames
+votes_frames ring vote did = go (are_held vote did.part.kept.votes)
+  where
+    go : (b : Bool) → (if b then did else with_change (change.Vote ring.id vote) (with_kept (with_vote vote did.part.kept) did.part) did).frames ≡ did.frames
+    go true = refl
+    go false = refl
+
 module _ (ring : Ring) (faces : ℕ → Face Value) (a : ℕ) (start : Face Value) (kept : RingState) where
   pub did_none : (part : Part) → PartTies (acceptors ring) (seen faces a start) start part → kept ≡ part.kept → DidTies ring faces a start kept start (nothing_done part)
   did_none part t e = record {
     done = record { reached = reach_none (acceptors ring) faces a start; kept = t.kept; learner = t.learner; changes = e; frames = tt; learned = tt; recorded = none_recorded ring.id start };
     role = t.role;
+    told = λ p h lt. inl h;
   }
 
   pub done_frames : (f : Face Value) (did : Did) (frames : List Sent) → AllByRecursion (IsSaid ring (seen faces a f)) frames → DoneTies ring faces a start kept f did
@@ -70,7 +78,7 @@ module _ (ring : Ring) (faces : ℕ → Face Value) (a : ℕ) (start : Face Valu
 
   pub did_frames : (f : Face Value) (did : Did) (frames : List Sent) → AllByRecursion (IsSaid ring (seen faces a f)) frames → DidTies ring faces a start kept f did
       → DidTies ring faces a start kept f (with_frames frames did)
-  did_frames f did frames said t = record { done = done_frames f did frames said t.done; role = t.role }
+  did_frames f did frames said t = record { done = done_frames f did frames said t.done; role = t.role; told = told_more ring a start f did.frames frames t.told }
 
   pub did_learned : (f : Face Value) (did : Did) (range : Decided) → IsRangeChosen (acceptors ring) (seen faces a f) range → DidTies ring faces a start kept f did
       → DidTies ring faces a start kept f (with_learned range did)
@@ -87,6 +95,7 @@ module _ (ring : Ring) (faces : ℕ → Face Value) (a : ℕ) (start : Face Valu
           recorded = d.recorded;
         };
         role = t.role;
+        told = t.told;
       }
 
   -- ---- the face goes on
@@ -144,9 +153,18 @@ module _ (ring : Ring) (faces : ℕ → Face Value) (a : ℕ) (start : Face Valu
               done = done_changed f g did (reach_one (acceptors ring) faces a f (Promises ballot 0 0) may) grows t.done (change.Promise ring.id ballot) (promised_part ballot did.part) (record { stand = ((λ r. omega arith), tt); voted = λ c h. inl h })
                   (rw (same_number ring.id.0) refl) refl (kept_promised f did.part.kept ballot 0 0 t.done.kept);
               role = idle did.part.coordinator.role t.role ne;
+              told = told_on ring a start f g did.frames (λ p h lt. inl (no_page p h lt)) t.told;
             };
           }
         where
+          -- its page is empty
+          no_page : (p : Promise Value) → Has (done (Promises ballot 0 0) f).promises p → p.low < p.high → Has f.promises p
+          no_page p (inl e) lt =
+              let low : p.low ≡ 0 = ap (λ (q : Promise Value). q.low) e in
+              let high : p.high ≡ 0 = ap (λ (q : Promise Value). q.high) e in
+              absurd (omega arith)
+          no_page p (inr h) lt = h
+
           idle : (role : Role) → RoleTies (acceptors ring) (seen faces a f) f role → did.part.kept.promise < ballot
               → RoleTies (acceptors ring) (seen faces a (done (Promises ballot 0 0) f)) (done (Promises ballot 0 0) f) (idle_below ballot role)
           idle Idle r lt = tt
@@ -188,6 +206,12 @@ module _ (ring : Ring) (faces : ℕ → Face Value) (a : ℕ) (start : Face Valu
           done_changed f g did reach voted.grows t (change.Vote ring.id vote) (with_kept (with_vote vote did.part.kept) did.part)
           (record { stand = ((λ r i x y. voted.cast i (omega arith) (omega arith)), tt); voted = λ c h. once c (voted.new c h) }) (rw (same_number ring.id.0) refl) refl
           (kept_voted f g did.part.kept vote t.kept voted (not_held_lt vote did.part.kept e) top)
+
+  -- votes make no promise
+  pub told_votes : (f g : Face Value) (did : Did) (vote : Voted) → g.promises ≡ f.promises → AreTold ring a start f did.frames → AreTold ring a start g (votes_for ring vote did).frames
+  told_votes f g did vote same t =
+      subst (λ (l : List Sent). AreTold ring a start g l) (sym (votes_frames ring vote did))
+      (told_on ring a start f g did.frames (λ p h lt. inl (subst (λ (l : List (Promise Value)). Has l p) same h)) t)
 
 -- ---- what these words leave alone
 

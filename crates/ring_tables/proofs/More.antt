@@ -1,5 +1,5 @@
 -- What stays so as faces grow.
-use Rattle.std.proofs.Common.{◌≡◌, ℕ, ◌≤◌, List, [], ◌∷◌, ◌++◌, ◌∙◌, arith, ◌⊎◌, inl, inr}
+use Rattle.std.proofs.Common.{◌≡◌, ℕ, ◌<◌, ◌≤◌, List, [], ◌∷◌, ◌++◌, ◌∙◌, arith, ◌⊎◌, inl, inr}
 use Rattle.std.specs.List.{AllByRecursion}
 use Rattle.quorums.specs.Groups.{Has}
 use Rattle.ring_safety.proofs.Local.{Grows-refl}
@@ -19,10 +19,10 @@ use Rattle.protocol.specs.Parts.{Ring, Campaign, Role, Idle, Active, Learner}
 use Rattle.vote_state.specs.declared.change.Change.{Change}
 use Rattle.vote_state.specs.declared.change.Change.TheVariants as change
 use Rattle.protocol.specs.Lines.{Line, Learn}
-use Rattle.ring_safety.specs.Faces.{Proposal, Face, owner}
+use Rattle.ring_safety.specs.Faces.{Promise, Proposal, Face, owner}
 use Rattle.ring_safety.specs.Worlds.{Chosen}
 use Rattle.ring_safety.specs.Rules.{Grows}
-use Rattle.ring_tables.specs.Ties.{acceptors, IsChosen, IsRangeChosen, Reports, IsOutstanding, CampaignTies, RoleTies, LearnerTies, PromiseSaid, AcceptSaid, BodySaid, SaidBy, IsSaid, IsTold, IsRecorded, IsVotedIn, AreRecorded}
+use Rattle.ring_tables.specs.Ties.{acceptors, IsChosen, IsRangeChosen, Reports, IsOutstanding, CampaignTies, RoleTies, LearnerTies, PromiseSaid, AcceptSaid, BodySaid, SaidBy, IsSaid, IsTold, IsRecorded, IsVotedIn, AreRecorded, IsToldIn, AreTold}
 
 pub mapped : {T : Type 0} (P Q : T → Type 0) → ((x : T) → P x → Q x) → (xs : List T) → AllByRecursion P xs → AllByRecursion Q xs
 mapped P Q h [] all = tt
@@ -140,7 +140,7 @@ has_first [] ys x h = absurd h
 has_first (y ∷ xs) ys x (inl e) = inl e
 has_first (y ∷ xs) ys x (inr h) = inr (has_first xs ys x h)
 
-has_second : {T : Type 0} (xs ys : List T) (x : T) → Has ys x → Has (xs ++ ys) x
+pub has_second : {T : Type 0} (xs ys : List T) (x : T) → Has ys x → Has (xs ++ ys) x
 has_second [] ys x h = h
 has_second (y ∷ xs) ys x h = inr (has_second xs ys x h)
 
@@ -193,3 +193,30 @@ pub recorded_apart : (ring : Ring) (start f : Face Value) (xs ys : List Change) 
     → AreRecorded ring.id start f (xs ++ ys)
 recorded_apart ring start f xs ys stand r =
     recorded_both ring start f f xs ys (Grows-refl f) r (record { stand = stand; voted = λ c h. inl h })
+
+-- ---- promises that were sent
+
+pub told_first : (ring : Ring) (xs ys : List Sent) (p : Promise Value) → IsToldIn ring xs p → IsToldIn ring (xs ++ ys) p
+told_first ring xs ys p t = record { sent = t.sent; there = has_first xs ys t.sent t.there; by = t.by; votes = t.votes; same = t.same; tells = t.tells }
+
+told_second : (ring : Ring) (xs ys : List Sent) (p : Promise Value) → IsToldIn ring ys p → IsToldIn ring (xs ++ ys) p
+told_second ring xs ys p t = record { sent = t.sent; there = has_second xs ys t.sent t.there; by = t.by; votes = t.votes; same = t.same; tells = t.tells }
+
+-- more is sent
+pub told_through : (ring : Ring) (a : ℕ) (start f : Face Value) (xs ys : List Sent) → ((p : Promise Value) → IsToldIn ring xs p → IsToldIn ring ys p) → AreTold ring a start f xs
+    → AreTold ring a start f ys
+told_through ring a start f xs ys more t p h lt = elim (t p h lt) [ inl old ↦ inl old | inr new ↦ inr (elim new [ inl own ↦ inl own | inr told ↦ inr (more p told) ]) ]
+
+pub told_more : (ring : Ring) (a : ℕ) (start f : Face Value) (xs ys : List Sent) → AreTold ring a start f xs → AreTold ring a start f (xs ++ ys)
+told_more ring a start f xs ys t = told_through ring a start f xs (xs ++ ys) (told_first ring xs ys) t
+
+-- the face goes on, by promises of own ballots at most
+pub told_on : (ring : Ring) (a : ℕ) (start f g : Face Value) (frames : List Sent)
+    → ((p : Promise Value) → Has g.promises p → p.low < p.high → Has f.promises p ⊎ (owner (acceptors ring) p.ballot ≡ a)) → AreTold ring a start f frames → AreTold ring a start g frames
+told_on ring a start f g frames new t p h lt = elim (new p h lt) [ inl old ↦ t p old lt | inr own ↦ inr (inl own) ]
+
+pub told_both : (ring : Ring) (a : ℕ) (start f g : Face Value) (xs ys : List Sent) → AreTold ring a start f xs → AreTold ring a f g ys → AreTold ring a start g (xs ++ ys)
+told_both ring a start f g xs ys s t p h lt = elim (t p h lt) [
+  | inl old ↦ told_more ring a start f xs ys s p old lt
+  | inr new ↦ inr (elim new [ inl own ↦ inl own | inr told ↦ inr (told_second ring xs ys p told) ])
+]

@@ -38,6 +38,7 @@ use Rattle.ring_tables.proofs.More.{mapped, appended, IsOutstanding-more, Report
 use Rattle.ring_tables.specs.Done.{DoneTies, DidTies, After}
 use Rattle.ring_tables.proofs.Doing.{done_votes, votes_role}
 use Rattle.ring_tables.proofs.Acceptor.{did_goes_on}
+use Rattle.ring_tables.proofs.Doing.{told_votes}
 use Rattle.ring_tables.proofs.Backing.{Agrees, backing, covered_ended}
 
 -- what may be offered: from the next instance on, where a majority is covered, a value that agrees with all reports there
@@ -215,6 +216,7 @@ module _ (ring : Ring) (faces : ℕ → Face Value) (a : ℕ) (seat : position_o
           (record {
             done = done_votes ring faces a start kept f g offered (vote_of campaign.ballot range) proposed.reached proposed.voted hi_ended (Local-reach (acceptors ring) faces a all start f local done_before.reached) done_before;
             role = subst (λ r. RoleTies (acceptors ring) (seen faces a g) g r) (sym (votes_role ring (vote_of campaign.ballot range) offered)) ties_after;
+            told = told_votes ring faces a start kept f g offered (vote_of campaign.ballot range) proposed.voted.promises m.before.told;
           });
     }
 
@@ -262,6 +264,7 @@ module _ (ring : Ring) (faces : ℕ → Face Value) (a : ℕ) (seat : position_o
           by_choice Rests e = record {
             done = record { reached = d.reached; kept = d.kept; learner = d.learner; changes = d.changes; frames = d.frames; learned = d.learned; recorded = d.recorded };
             role = up.1;
+            told = t.told;
           }
           by_choice (Offers range taken) e = record {
             before = t;

@@ -7,7 +7,7 @@ use Rattle.vote_state.specs.declared.ring.RingState.{RingState}
 use Rattle.ring_reach.specs.Reach.{Reaches, seen}
 use Rattle.protocol.specs.Parts.{Ring, Part, Did}
 use Rattle.protocol.specs.Rings.{is_own, position_of}
-use Rattle.ring_tables.specs.Ties.{acceptors, IsRangeChosen, RoleTies, LearnerTies, PartTies, IsSaid, AreRecorded}
+use Rattle.ring_tables.specs.Ties.{acceptors, IsRangeChosen, RoleTies, LearnerTies, PartTies, IsSaid, AreRecorded, AreTold}
 use Rattle.ring_safety.specs.Faces.{Face}
 use Rattle.ring_safety.specs.Invariant.{Local}
 use Rattle.ring_safety.specs.Rules.{Grows}
@@ -29,6 +29,7 @@ pub record DoneTies (ring : Ring) (faces : ℕ → Face Value) (a : ℕ) (start 
 pub record DidTies (ring : Ring) (faces : ℕ → Face Value) (a : ℕ) (start : Face Value) (kept : RingState) (f : Face Value) (did : Did) : Type 0 where
   pub done : DoneTies ring faces a start kept f did
   pub role : RoleTies (acceptors ring) (seen faces a f) f did.part.coordinator.role
+  pub told : AreTold ring a start f did.frames
 
 -- and to some face that f grows into
 pub record After (ring : Ring) (faces : ℕ → Face Value) (a : ℕ) (start : Face Value) (kept : RingState) (f : Face Value) (did : Did) : Type 0 where

@@ -133,6 +133,22 @@ SaidBy ring now (Client from) b = Unit {0}
 abbrev pub IsSaid : Ring → (ℕ → Face Value) → Sent → Type 0
 IsSaid ring now sent = SaidBy ring now sent.frame.from sent.frame.body
 
+-- ---- promises that were sent
+
+-- a Promise frame of the node that tells what the promise tells
+pub record IsToldIn (ring : Ring) (frames : List Sent) (p : Promise Value) : Type 0 where
+  pub sent : Sent
+  pub there : Has frames sent
+  pub by : sent.frame.from ≡ Node ring.own
+  pub votes : List Voted
+  pub same : sent.frame.body ≡ body.Promise ring.id p.ballot p.low p.high p.trim votes
+  pub tells : (i : ℕ) → p.told i ≡ told_of (cast_at i votes)
+
+-- From the face `start` on, each promise with a page that isn't empty was sent in these frames, or is of a ballot of the node's own.
+abbrev pub AreTold : Ring → ℕ → Face Value → Face Value → List Sent → Type 0
+AreTold ring a start f frames =
+    (p : Promise Value) → Has f.promises p → p.low < p.high → Has start.promises p ⊎ ((owner (acceptors ring) p.ballot ≡ a) ⊎ IsToldIn ring frames p)
+
 -- ---- (e) what was printed: a learn line tells what was chosen, and no other line says anything of the ring
 
 abbrev pub IsTold : Ring → (ℕ → Face Value) → Line → Type 0
