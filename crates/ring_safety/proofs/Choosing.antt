@@ -6,7 +6,7 @@ use Rattle.ring_safety.specs.Faces.{Vote, Proposal, Promise, Face, rank, owner}
 use Rattle.ring_safety.specs.Deeds.{IsProposed, IsFree, IsHighest}
 use Rattle.ring_safety.specs.Worlds.{Chosen}
 use Rattle.ring_safety.specs.Rules.{Backed}
-use Rattle.ring_safety.proofs.Local.{Local}
+use Rattle.ring_safety.specs.Invariant.{Local}
 use Rattle.ring_safety.proofs.Deeds.{Voice, voice}
 
 -- what is below a bound that is one higher

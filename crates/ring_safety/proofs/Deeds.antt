@@ -2,10 +2,22 @@
 use Rattle.std.proofs.Common.{◌≡◌, ◌⊎◌, inl, inr, ℕ, suc, ◌<◌, ◌≤◌, List, [], ◌∷◌, Option, Some, None, refl, sym, ◌∙◌, ap, subst, arith}
 use Rattle.quorums.specs.Groups.{Has}
 use Rattle.ring_safety.specs.Faces.{Vote, Proposal, Promise, Lead, Face, rank, owner}
-use Rattle.ring_safety.specs.Deeds.{Deed, Promises, Starts, Proposes, Votes, Trims, Passes, Stops, done, all_done, May, MayAll, MayPropose, MayVote, MayStart, MayPass, IsProposed, IsPromised}
+use Rattle.ring_safety.specs.Deeds.{Deed, Promises, Starts, Proposes, Votes, Trims, done, all_done, May, MayAll, MayPropose, MayVote, MayStart, IsProposed, IsPromised}
 use Rattle.ring_safety.specs.Rules.{Grows, Backed}
 use Rattle.ring_safety.proofs.Votes.{each, voted_each, trimmed_each, page_each, voted_rank, voted_here, trimmed_above, page_inside}
-use Rattle.ring_safety.proofs.Local.{Local, Grows-refl, Grows-trans, IsProposed-more, Backed-more}
+use Rattle.ring_safety.specs.Invariant.{Local}
+use Rattle.ring_safety.proofs.Local.{Grows-refl, Grows-trans, IsProposed-more, Backed-more}
+
+-- nothing that was said is lost, and neither promise nor trim falls
+pub Grows-done : {V : Type 0} (n : ℕ) (faces : ℕ → Face V) (a : ℕ) (f : Face V) (d : Deed V) → May n faces a f d → Grows f (done d f)
+Grows-done n faces a f (Promises ballot low high) may = record { promise = may; trim = omega arith; promises = λ q h. inr h; proposals = λ q h. h; casts = λ q h. h }
+Grows-done n faces a f (Starts ballot high) may =
+    record { promise = omega (arith, may.above); trim = omega arith; promises = λ q h. inr h; proposals = λ q h. h; casts = λ q h. h }
+Grows-done n faces a f (Proposes ballot instance value) may =
+    record { promise = omega arith; trim = omega arith; promises = λ q h. h; proposals = λ q h. inr h; casts = λ q h. inr h }
+Grows-done n faces a f (Votes ballot instance value) may =
+    record { promise = may.promised; trim = omega arith; promises = λ q h. h; proposals = λ q h. h; casts = λ q h. inr h }
+Grows-done n faces a f (Trims to) may = record { promise = omega arith; trim = may; promises = λ q h. h; proposals = λ q h. h; casts = λ q h. h }
 
 some_lead : {b c : Lead} → Some b ≡ Some c → b ≡ c
 some_lead e = cc
@@ -13,9 +25,6 @@ some_lead e = cc
 -- the only lead is this one
 lead_is : (P : Lead → Type 0) {b : Lead} → P b → (l : Lead) → Some b ≡ Some l → P l
 lead_is P h l e = subst P (some_lead e) h
-
-no_lead : {C : Type 0} {l : Lead} → None ≡ Some l → C
-no_lead e = cc
 
 -- A voice that promised: a face of acceptor k that keeps the invariant and has the promise, all of whose proposals in
 -- ballots of a stand in a's face too.
@@ -77,12 +86,9 @@ module _ {V : Type 0} (n : ℕ) (faces : ℕ → Face V) (all : (k : ℕ) → Lo
   backed_more g grows = Backed-more n faces faces (λ m. Grows-refl (faces m)) f g grows a
 
   -- a new promise of a ballot no lower than the old: what it tells of a page is what the face holds
-  promises_more : (ballot low high : ℕ) → f.promise ≤ ballot → Grows f (done (Promises ballot low high) f)
-  promises_more ballot low high may = record { promise = may; trim = omega arith; promises = λ p h. inr h; proposals = λ p h. h; casts = λ p h. h }
-
   pub Local-promises : (ballot low high : ℕ) → f.promise ≤ ballot → Local n faces a (done (Promises ballot low high) f)
   Local-promises ballot low high may = record {
-    grown = Grows-trans k.grown (promises_more ballot low high may);
+    grown = Grows-trans k.grown (Grows-done n faces a f (Promises ballot low high) may);
     held_cast = k.held_cast;
     held_promised = λ i v e. omega (arith, k.held_promised i v e);
     held_untrimmed = k.held_untrimmed;
@@ -97,22 +103,20 @@ module _ {V : Type 0} (n : ℕ) (faces : ℕ → Face V) (all : (k : ℕ) → Lo
     proposed = k.proposed;
     owned = k.owned;
     proposal_promised = λ p h. omega (arith, k.proposal_promised p h);
+    proposal_cast = k.proposal_cast;
     one_value = k.one_value;
     leads_owned = k.leads_owned;
     leads_promised = λ l e. omega (arith, k.leads_promised l e);
     leads_next = k.leads_next;
-    backed = λ p h. backed_more (done (Promises ballot low high) f) (promises_more ballot low high may) p (k.backed p h);
+    backed = λ p h. backed_more (done (Promises ballot low high) f) (Grows-done n faces a f (Promises ballot low high) may) p (k.backed p h);
   }
 
   -- a start is a promise to itself, and nothing was proposed in its ballot before
-  starts_more : (ballot high : ℕ) → MayStart n a f ballot → Grows f (done (Starts ballot high) f)
-  starts_more ballot high may = record { promise = omega (arith, may.above); trim = omega arith; promises = λ p h. inr h; proposals = λ p h. h; casts = λ p h. h }
-
   pub Local-starts : (ballot high : ℕ) → MayStart n a f ballot → Local n faces a (done (Starts ballot high) f)
   Local-starts ballot high may =
       let above : f.promise < ballot = may.above in
       record {
-        grown = Grows-trans k.grown (starts_more ballot high may);
+        grown = Grows-trans k.grown (Grows-done n faces a f (Starts ballot high) may);
         held_cast = k.held_cast;
         held_promised = λ i v e. omega (arith, k.held_promised i v e);
         held_untrimmed = k.held_untrimmed;
@@ -127,16 +131,14 @@ module _ {V : Type 0} (n : ℕ) (faces : ℕ → Face V) (all : (k : ℕ) → Lo
         proposed = k.proposed;
         owned = k.owned;
         proposal_promised = λ p h. omega (arith, k.proposal_promised p h);
+        proposal_cast = k.proposal_cast;
         one_value = k.one_value;
         leads_owned = lead_is (λ l. owner n l.ballot ≡ a) may.owned;
         leads_promised = lead_is (λ l. l.ballot ≤ ballot) (omega arith);
         leads_next = lead_is (λ l. (p : Proposal V) → Has f.proposals p → p.ballot ≡ l.ballot → p.instance < l.next)
             (λ p h s. absurd (omega (arith, k.proposal_promised p h)));
-        backed = λ p h. backed_more (done (Starts ballot high) f) (starts_more ballot high may) p (k.backed p h);
+        backed = λ p h. backed_more (done (Starts ballot high) f) (Grows-done n faces a f (Starts ballot high) may) p (k.backed p h);
       }
-
-  proposes_more : (p : Proposal V) → Grows f (done (Proposes p.ballot p.instance p.value) f)
-  proposes_more p = record { promise = omega arith; trim = omega arith; promises = λ q h. h; proposals = λ q h. inr h; casts = λ q h. inr h }
 
   pub Local-proposes : (p : Proposal V) → MayPropose n faces a f p → Local n faces a (done (Proposes p.ballot p.instance p.value) f)
   Local-proposes p may =
@@ -146,9 +148,10 @@ module _ {V : Type 0} (n : ℕ) (faces : ℕ → Face V) (all : (k : ℕ) → Lo
       let same : f.promise ≡ p.ballot = may.promised in
       let new : may.next ≤ p.instance = may.unproposed in
       let mine : owner n p.ballot ≡ a = k.leads_owned lead may.leads in
+      let grows : Grows f g = Grows-done n faces a f (Proposes p.ballot p.instance p.value) may in
       let past : (q : Proposal V) → Has f.proposals q → q.ballot ≡ p.ballot → q.instance < may.next = k.leads_next lead may.leads in
       record {
-        grown = Grows-trans k.grown (proposes_more p);
+        grown = Grows-trans k.grown grows;
         held_cast = voted_each (λ i v. Has (p ∷ f.casts) (record { ballot = v.ballot; instance = i; value = v.value })) f.votes p.instance vote
             (inl refl) (λ i v e. inr (k.held_cast i v e));
         held_promised = voted_each (λ i v. v.ballot ≤ f.promise) f.votes p.instance vote (omega arith) k.held_promised;
@@ -161,9 +164,10 @@ module _ {V : Type 0} (n : ℕ) (faces : ℕ → Face V) (all : (k : ℕ) → Lo
         told_cast = λ q h i v e. inr (k.told_cast q h i v e);
         told_promised = k.told_promised;
         outdone = λ q h. each f.casts (λ lt. absurd (omega (arith, k.promised q h))) (k.outdone q h);
-        proposed = each f.casts (inr (inl refl)) (λ c h. known_more g (proposes_more p) c (k.proposed c h));
+        proposed = each f.casts (inr (inl refl)) (λ c h. known_more g grows c (k.proposed c h));
         owned = each f.proposals mine k.owned;
         proposal_promised = each f.proposals (omega arith) k.proposal_promised;
+        proposal_cast = each f.proposals (inl refl) (λ q h. inr (k.proposal_cast q h));
         one_value = each f.proposals
             (each f.proposals (λ s t. refl) (λ q h s t. absurd (omega (arith, past q h (sym s)))))
             (λ q h. each f.proposals (λ s t. absurd (omega (arith, past q h s))) (k.one_value q h));
@@ -171,18 +175,15 @@ module _ {V : Type 0} (n : ℕ) (faces : ℕ → Face V) (all : (k : ℕ) → Lo
         leads_promised = lead_is (λ l. l.ballot ≤ f.promise) (omega arith);
         leads_next = lead_is (λ l. (q : Proposal V) → Has (p ∷ f.proposals) q → q.ballot ≡ l.ballot → q.instance < l.next)
             (each f.proposals (λ s. omega arith) (λ q h s. omega (arith, past q h s)));
-        backed = each f.proposals (backed_more g (proposes_more p) p (backed_new p may)) (λ q h. backed_more g (proposes_more p) q (k.backed q h));
+        backed = each f.proposals (backed_more g grows p (backed_new p may)) (λ q h. backed_more g grows q (k.backed q h));
       }
-
-  votes_more : (p : Proposal V) → f.promise ≤ p.ballot → Grows f (done (Votes p.ballot p.instance p.value) f)
-  votes_more p le = record { promise = le; trim = omega arith; promises = λ q h. h; proposals = λ q h. h; casts = λ q h. inr h }
 
   pub Local-votes : (p : Proposal V) → MayVote n faces f p → Local n faces a (done (Votes p.ballot p.instance p.value) f)
   Local-votes p may =
       let vote : Vote V = record { ballot = p.ballot; value = p.value } in
       let g : Face V = done (Votes p.ballot p.instance p.value) f in
       let above : f.promise ≤ p.ballot = may.promised in
-      let grows : Grows f g = votes_more p above in
+      let grows : Grows f g = Grows-done n faces a f (Votes p.ballot p.instance p.value) may in
       record {
         grown = Grows-trans k.grown grows;
         held_cast = voted_each (λ i v. Has (p ∷ f.casts) (record { ballot = v.ballot; instance = i; value = v.value })) f.votes p.instance vote
@@ -200,6 +201,7 @@ module _ {V : Type 0} (n : ℕ) (faces : ℕ → Face V) (all : (k : ℕ) → Lo
         proposed = each f.casts (known_more g grows p may.proposed) (λ c h. known_more g grows c (k.proposed c h));
         owned = k.owned;
         proposal_promised = λ q h. omega (arith, k.proposal_promised q h);
+        proposal_cast = λ q h. inr (k.proposal_cast q h);
         one_value = k.one_value;
         leads_owned = k.leads_owned;
         leads_promised = λ l e. omega (arith, k.leads_promised l e);
@@ -207,12 +209,9 @@ module _ {V : Type 0} (n : ℕ) (faces : ℕ → Face V) (all : (k : ℕ) → Lo
         backed = λ q h. backed_more g grows q (k.backed q h);
       }
 
-  trims_more : (to : ℕ) → f.trim ≤ to → Grows f (done (Trims to) f)
-  trims_more to le = record { promise = omega arith; trim = le; promises = λ q h. h; proposals = λ q h. h; casts = λ q h. h }
-
   pub Local-trims : (to : ℕ) → f.trim ≤ to → Local n faces a (done (Trims to) f)
   Local-trims to le = record {
-    grown = Grows-trans k.grown (trims_more to le);
+    grown = Grows-trans k.grown (Grows-done n faces a f (Trims to) le);
     held_cast = trimmed_each (λ i v. Has f.casts (record { ballot = v.ballot; instance = i; value = v.value })) f.votes to (λ i v up e. k.held_cast i v e);
     held_promised = trimmed_each (λ i v. v.ballot ≤ f.promise) f.votes to (λ i v up e. k.held_promised i v e);
     held_untrimmed = trimmed_each (λ i v. to ≤ i) f.votes to (λ i v up e. up);
@@ -225,55 +224,13 @@ module _ {V : Type 0} (n : ℕ) (faces : ℕ → Face V) (all : (k : ℕ) → Lo
     proposed = k.proposed;
     owned = k.owned;
     proposal_promised = k.proposal_promised;
+    proposal_cast = k.proposal_cast;
     one_value = k.one_value;
     leads_owned = k.leads_owned;
     leads_promised = k.leads_promised;
     leads_next = k.leads_next;
-    backed = λ q h. backed_more (done (Trims to) f) (trims_more to le) q (k.backed q h);
+    backed = λ q h. backed_more (done (Trims to) f) (Grows-done n faces a f (Trims to) le) q (k.backed q h);
   }
-
-  -- nothing that was said changes with who leads
-  leads_more : (leads : Option Lead) → Grows f (record f { leads = leads })
-  leads_more leads = record { promise = omega arith; trim = omega arith; promises = λ q h. h; proposals = λ q h. h; casts = λ q h. h }
-
-  pub Local-leads : (leads : Option Lead)
-      → ((l : Lead) → leads ≡ Some l → owner n l.ballot ≡ a)
-      → ((l : Lead) → leads ≡ Some l → l.ballot ≤ f.promise)
-      → ((l : Lead) → leads ≡ Some l → (p : Proposal V) → Has f.proposals p → p.ballot ≡ l.ballot → p.instance < l.next)
-      → Local n faces a (record f { leads = leads })
-  Local-leads leads owned promised next = record {
-    grown = Grows-trans k.grown (leads_more leads);
-    held_cast = k.held_cast;
-    held_promised = k.held_promised;
-    held_untrimmed = k.held_untrimmed;
-    cast_promised = k.cast_promised;
-    kept = k.kept;
-    promised = k.promised;
-    told_cast = k.told_cast;
-    told_promised = k.told_promised;
-    outdone = k.outdone;
-    proposed = k.proposed;
-    owned = k.owned;
-    proposal_promised = k.proposal_promised;
-    one_value = k.one_value;
-    leads_owned = owned;
-    leads_promised = promised;
-    leads_next = next;
-    backed = λ q h. backed_more (record f { leads = leads }) (leads_more leads) q (k.backed q h);
-  }
-
-  pub Local-passes : (ballot to : ℕ) → MayPass f ballot to → Local n faces a (done (Passes ballot to) f)
-  Local-passes ballot to may =
-      let lead : Lead = record { ballot = ballot; next = may.next } in
-      let on : may.next ≤ to = may.onward in
-      Local-leads (Some (record { ballot = ballot; next = to }))
-      (lead_is (λ l. owner n l.ballot ≡ a) (k.leads_owned lead may.leads))
-      (lead_is (λ l. l.ballot ≤ f.promise) (k.leads_promised lead may.leads))
-      (lead_is (λ l. (p : Proposal V) → Has f.proposals p → p.ballot ≡ l.ballot → p.instance < l.next)
-      (λ p h s. omega (arith, k.leads_next lead may.leads p h s)))
-
-  pub Local-stops : Local n faces a (record f { leads = None })
-  Local-stops = Local-leads None (λ l e. no_lead e) (λ l e. no_lead e) (λ l e. no_lead e)
 
 pub Local-done : {V : Type 0} (n : ℕ) (faces : ℕ → Face V) (all : (k : ℕ) → Local n faces k (faces k)) (a : ℕ) (f : Face V) → Local n faces a f
     → (d : Deed V) → May n faces a f d → Local n faces a (done d f)
@@ -282,8 +239,6 @@ Local-done n faces all a f k (Starts ballot high) may = Local-starts n faces all
 Local-done n faces all a f k (Proposes ballot instance value) may = Local-proposes n faces all a f k (record { ballot = ballot; instance = instance; value = value }) may
 Local-done n faces all a f k (Votes ballot instance value) may = Local-votes n faces all a f k (record { ballot = ballot; instance = instance; value = value }) may
 Local-done n faces all a f k (Trims to) may = Local-trims n faces all a f k to may
-Local-done n faces all a f k (Passes ballot to) may = Local-passes n faces all a f k ballot to may
-Local-done n faces all a f k Stops may = Local-stops n faces all a f k
 
 pub Local-all_done : {V : Type 0} (n : ℕ) (faces : ℕ → Face V) (all : (k : ℕ) → Local n faces k (faces k)) (a : ℕ) (f : Face V) → Local n faces a f
     → (ds : List (Deed V)) → MayAll n faces a f ds → Local n faces a (all_done ds f)

@@ -5,13 +5,9 @@ use Rattle.ring_safety.specs.Faces.{Face}
 use Rattle.ring_safety.specs.Deeds.{Deed, all_done, MayAll}
 use Rattle.ring_safety.specs.Worlds.{Node, World, Event, Step, Stopped, Before, After, empty, durables, with_node, happens, CanHappen, run, CanRun, IsFaceOf}
 use Rattle.ring_safety.specs.Rules.{Grows}
-use Rattle.ring_safety.proofs.Local.{Local, Grows-refl, Grows-of_eq, Grows-trans, Local-elsewhere, Local-blank}
+use Rattle.ring_safety.specs.Invariant.{Local, Sound}
+use Rattle.ring_safety.proofs.Local.{Grows-refl, Grows-of_eq, Grows-trans, Local-elsewhere, Local-blank}
 use Rattle.ring_safety.proofs.Deeds.{Local-all_done}
-
--- both faces of each node keep the invariant
-pub record Sound {V : Type 0} (n : ℕ) (w : World V) : Type 0 where
-  pub durable : (a : ℕ) → Local n (durables w) a (w a).durable
-  pub pending : (a : ℕ) → Local n (durables w) a (w a).pending
 
 pub Sound-empty : {V : Type 0} (n : ℕ) → Sound {V = V} n empty
 Sound-empty n = record { durable = λ a. Local-blank n (durables empty) a refl; pending = λ a. Local-blank n (durables empty) a refl }

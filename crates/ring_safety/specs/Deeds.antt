@@ -14,10 +14,6 @@ pub data Deed (V : Type 0) : Type 0 where
   Votes : (ballot instance : ℕ) → (value : V) → Deed V
   -- to let go what stands below an instance
   Trims : (to : ℕ) → Deed V
-  -- to pass over instances as a leader
-  Passes : (ballot to : ℕ) → Deed V
-  -- to lead no longer
-  Stops : Deed V
 
 -- the face after a deed
 abbrev pub done : {V : Type 0} → Deed V → Face V → Face V
@@ -42,8 +38,6 @@ done (Votes ballot instance value) f = record f {
   casts = record { ballot = ballot; instance = instance; value = value } ∷ f.casts;
 }
 done (Trims to) f = record f { trim = to; votes = trimmed f.votes to }
-done (Passes ballot to) f = record f { leads = Some (record { ballot = ballot; next = to }) }
-done Stops f = record f { leads = None }
 
 -- What a node with the face f knows: what the durable faces of all acceptors say, and what f itself says.
 
@@ -110,12 +104,6 @@ pub record MayStart {V : Type 0} (n a : ℕ) (f : Face V) (ballot : ℕ) : Type 
   pub owned : owner n ballot ≡ a
   pub above : f.promise < ballot
 
--- a leader passes on, never back
-pub record MayPass {V : Type 0} (f : Face V) (ballot to : ℕ) : Type 0 where
-  pub next : ℕ
-  pub leads : f.leads ≡ Some (record { ballot = ballot; next = next })
-  pub onward : next ≤ to
-
 -- whether a ring's node a, with this face, may do a deed, where these are the durable faces of the n acceptors
 abbrev pub May : {V : Type 0} → ℕ → (ℕ → Face V) → ℕ → Face V → Deed V → Type 0
 May n faces a f (Promises ballot low high) = f.promise ≤ ballot
@@ -123,8 +111,6 @@ May n faces a f (Starts ballot high) = MayStart n a f ballot
 May n faces a f (Proposes ballot instance value) = MayPropose n faces a f (record { ballot = ballot; instance = instance; value = value })
 May n faces a f (Votes ballot instance value) = MayVote n faces f (record { ballot = ballot; instance = instance; value = value })
 May n faces a f (Trims to) = f.trim ≤ to
-May n faces a f (Passes ballot to) = MayPass f ballot to
-May n faces a f Stops = Unit {0}
 
 -- several deeds in turn
 abbrev pub all_done : {V : Type 0} → List (Deed V) → Face V → Face V

@@ -22,7 +22,8 @@ pub record Promise (V : Type 0) : Type 0 where
   pub trim : ℕ
   pub told : ℕ → Option (Vote V)
 
--- the ballot that an acceptor leads, and the first instance at which it has yet to propose
+-- The last ballot that an acceptor started, and the first instance at which it may still propose there. It need not propose
+-- any more, or at each instance: a leader may stop or leave instances out, and a face says nothing of it.
 pub record Lead : Type 0 where
   pub ballot : ℕ
   pub next : ℕ
@@ -35,7 +36,7 @@ pub record Face (V : Type 0) : Type 0 where
   pub trim : ℕ
   -- its last vote at each instance
   pub votes : ℕ → Option (Vote V)
-  -- the ballot that it leads, if any
+  -- the ballot that it leads, if it has started one
   pub leads : Option Lead
   -- the promises that it made, its own starts among them
   pub promises : List (Promise V)

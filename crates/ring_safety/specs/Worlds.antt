@@ -35,8 +35,7 @@ pub data Event (V : Type 0) : Type 0 where
   -- a restart on an image that stands for the state after
   After : (node : ℕ) → Event V
 
--- What a restart keeps is what the disk stands for. A real node then leads nothing, which is the deed Stops; the laws do not
--- need that it does.
+-- What a restart keeps is what the disk stands for. A real node then leads nothing; the laws do not need that it does.
 abbrev pub happens : {V : Type 0} → Event V → World V → World V
 happens (Step a deeds) w = with_node w a (record { durable = all_done deeds (w a).durable; pending = all_done deeds (w a).durable })
 happens (Stopped a deeds) w = with_node w a (record { durable = (w a).durable; pending = all_done deeds (w a).durable })

@@ -6,10 +6,11 @@
 #![tactic(auto)]
 
 ghost use Rattle.std.specs.Prelude.{◌≡◌, ◌++◌, ◌∷◌, [], ℕ, List};
-ghost use Rattle.ring_safety.specs.Deeds.{Deed, MayAll, all_done};
+ghost use Rattle.ring_safety.specs.Deeds.{Deed, May, MayAll, done, all_done};
 ghost use Rattle.ring_safety.specs.Example.{first_world, second_world, seven, with_state_after, with_state_before};
 ghost use Rattle.ring_safety.specs.Faces.{Face};
-ghost use Rattle.ring_safety.specs.Rules.{PromiseRule, VoteRule, ProposeRule, ChooseRule, OneValueRule, StaysRule};
+ghost use Rattle.ring_safety.specs.Invariant.{Local, Sound};
+ghost use Rattle.ring_safety.specs.Rules.{Grows, PromiseRule, VoteRule, ProposeRule, ChooseRule, OneValueRule, StaysRule};
 ghost use Rattle.ring_safety.specs.Worlds.{World, Event, CanHappen, CanRun, Chosen, durables, empty, happens, run};
 
 /// Each face keeps the promises made in it, and both faces of a node keep, for ever, those that it sent.
@@ -46,6 +47,32 @@ pub fn one_value<V>()
 pub fn stays<V>()
     ensures { (n : ℕ) (early late : List (Event V)) → CanRun n empty early → CanRun n (run early empty) late
         → StaysRule n (run early empty) (run late (run early empty)) }
+{}
+
+/// Deeds that may be done keep the invariant of a face where each durable face keeps its own, and a deed takes back nothing
+/// that was said, and lowers neither the promise nor the trim.
+pub fn deeds_keep_the_invariant<V>()
+    ensures keep { (n : ℕ) (faces : ℕ → Face V) → ((k : ℕ) → Local n faces k (faces k)) → (a : ℕ) (f : Face V) → Local n faces a f → (deeds : List (Deed V))
+        → MayAll n faces a f deeds → Local n faces a (all_done deeds f) }
+    ensures grow { (n : ℕ) (faces : ℕ → Face V) (a : ℕ) (f : Face V) (d : Deed V) → May n faces a f d → Grows f (done d f) }
+{}
+
+/// In the empty world both faces of each node keep the invariant, and whatever events may happen leave it so: such a world is
+/// sound.
+pub fn what_may_happen_is_sound<V>()
+    ensures at_first { (n : ℕ) → Sound {V = V} n empty }
+    ensures onward { (n : ℕ) (w : World V) → Sound n w → (events : List (Event V)) → CanRun n w events → Sound n (run events w) }
+{}
+
+/// A sound world, and what any events that may happen leave of it, keep all the rules above. So who carries that a world is
+/// sound needs to know nothing of the events before.
+pub fn sound_worlds_keep_the_rules<V>()
+    ensures promise { (n : ℕ) (w : World V) → Sound n w → (events : List (Event V)) → CanRun n w events → PromiseRule w (run events w) }
+    ensures vote { (n : ℕ) (w : World V) → Sound n w → (events : List (Event V)) → CanRun n w events → VoteRule n w (run events w) }
+    ensures propose { (n : ℕ) (w : World V) → Sound n w → ProposeRule n w }
+    ensures choose { (n : ℕ) (w : World V) → Sound n w → (events : List (Event V)) → CanRun n w events → ChooseRule n w (run events w) }
+    ensures one_value { (n : ℕ) (w : World V) → Sound n w → (events : List (Event V)) → CanRun n w events → OneValueRule n w (run events w) }
+    ensures stays { (n : ℕ) (w : World V) → Sound n w → (events : List (Event V)) → CanRun n w events → StaysRule n w (run events w) }
 {}
 
 /// Events that may happen, and one more that may happen then, may happen in turn. So a world grows event by event.

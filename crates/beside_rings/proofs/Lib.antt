@@ -1,0 +1,4 @@
+pub mod Following
+pub mod Merge
+pub mod Recovered
+pub mod Asked

@@ -1,0 +1,6 @@
+pub mod Growing
+pub mod Ordering
+pub mod Quorum
+pub mod Between
+pub mod Moving
+pub mod OneMore

@@ -1,0 +1,4 @@
+pub mod Scanners
+pub mod Answers
+pub mod Rules
+pub mod More

@@ -1,0 +1,7 @@
+pub mod Starting
+pub mod Worlds
+pub mod Clients
+pub mod Runs
+pub mod Fitting
+pub mod Laws
+pub mod Agreeing

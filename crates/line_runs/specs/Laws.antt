@@ -1,0 +1,82 @@
+-- The words in which the laws of every run are said. A run's lines stand in the order in which they were printed; "the lines
+-- before" a line are turned round by `latest_first`, as the definitions of what is read of lines want them.
+use Rattle.std.specs.Prelude.{◌≡◌, ℕ, ◌<◌, ◌≤◌, ◌⊎◌, true, List, Option, Some, None, ◌++◌, ◌∷◌}
+use Rattle.mrp_types.specs.declared.id.NodeId.{NodeId}
+use Rattle.mrp_types.specs.declared.id.RingId.{RingId}
+use Rattle.mrp_types.specs.declared.id.Party.TheVariants.{Node}
+use Rattle.mrp_types.specs.declared.value.Value.{Value}
+use Rattle.mrp_config.specs.Config.{Config, has_ring}
+use Rattle.mrp_config.specs.Valid.{IsValid}
+use Rattle.mrp_config.specs.declared.tables.PartitionTable.{PartitionTable}
+use Rattle.frames.specs.declared.body.Body.{Body}
+use Rattle.frames.specs.declared.body.Body.TheVariants.{Promise, Trimmed, TrimTo}
+use Rattle.frames.specs.declared.sent.Sent.{Sent}
+use Rattle.quorums.specs.Groups.{Has}
+use Rattle.plain_model.specs.Tuples.{round_sizes, is_tuple_of}
+use Rattle.protocol.specs.Lines.{Line, Learn, Trim}
+use Rattle.protocol.specs.Opening.{partition_of}
+use Rattle.protocol.specs.Recovery.{tuple_of_newest}
+use Rattle.bare_world.specs.Worlds.{Possible, Host, Up, Down, Happening, nothing, possible_of}
+use Rattle.bare_world.specs.Runs.{run, MayRun}
+use Rattle.faithful.specs.Scanners.{before_begin, told, Reaches, entry_of}
+use Rattle.faithful.specs.Rules.{AllKnown}
+use Rattle.recovery_lines.specs.Ties.{newest_of}
+
+-- one value of all learn lines of a ring: two of them that cover an instance have the same
+abbrev pub HaveOneValue : List Line → Type 0
+HaveOneValue lines =
+    (m n : NodeId) (ring : RingId) (lo hi lo' hi' inst : ℕ) (value value' : Value) → Has lines (Learn m ring lo hi value) → Has lines (Learn n ring lo' hi' value')
+    → lo ≤ inst → inst < hi → lo' ≤ inst → inst < hi' → value ≡ value'
+
+-- each learn line has the value of each earlier learn line of the ring that covers an instance of it
+abbrev pub AgreeInTurn : List Line → Type 0
+AgreeInTurn lines =
+    (before after : List Line) (n : NodeId) (ring : RingId) (lo hi : ℕ) (value : Value) → lines ≡ before ++ Learn n ring lo hi value ∷ after
+    → (m : NodeId) (low high : ℕ) (earlier : Value) → Has before (Learn m ring low high earlier) → (inst : ℕ) → lo ≤ inst → inst < hi → low ≤ inst → inst < high → earlier ≡ value
+
+-- a run of a valid deployment, from the world in which no node has opened yet
+pub record IsRun (c : Config) (hs : List Happening) : Type 0 where
+  pub valid : IsValid c
+  pub may : MayRun c nothing hs
+  pub one_value : HaveOneValue (run c hs nothing).lines
+
+abbrev pub lines_of : Config → List Happening → List Line
+lines_of c hs = (run c hs nothing).lines
+
+-- a node's host in the world that a run leaves
+abbrev pub host_of : Config → List Happening → ℕ → Host
+host_of c hs n = (run c hs nothing).hosts n
+
+-- what the disk of a node may stand for: one state of a node that is up, and two of one that is down
+abbrev pub IsPossible : Host → Possible → Type 0
+IsPossible (Up view) s = s ≡ possible_of view
+IsPossible (Down durable pending) s = (s ≡ durable) ⊎ (s ≡ pending)
+
+-- the trim that a frame tells
+abbrev pub trim_told : Body → Option (RingId × ℕ)
+trim_told (Promise ring ballot lo hi trim votes) = Some (ring, trim)
+trim_told (Trimmed ring trim) = Some (ring, trim)
+trim_told (TrimTo ring trim) = Some (ring, trim)
+trim_told other = None
+
+-- one node sent a frame to another
+pub record NodeSent (sent : Sent) (from to : NodeId) (body : Body) : Type 0 where
+  pub from_node : sent.frame.from ≡ Node from
+  pub to_node : sent.to ≡ Node to
+  pub same : sent.frame.body ≡ body
+
+-- Of a replica's possible state: its newest tuple, or the zeros without one, is a valid one of the partition; every place below
+-- it is in the book; and it reaches every tuple that the node told by a begin or saved line.
+pub record KeepsTold (c : Config) (lines : List Line) (n : ℕ) (p : PartitionTable) (s : Possible) : Type 0 where
+  pub valid : is_tuple_of (round_sizes c) p.rings (tuple_of_newest p s.newest) ≡ true
+  pub known : AllKnown lines (tuple_of_newest p s.newest)
+  pub reaches : (earlier : List ℕ) → Has (told n lines) earlier → Reaches (newest_of p s.newest) earlier
+
+-- A recovery starts at or past every trim, of every ring of its partition, whose line stands before the begin line of its
+-- attempt: `earlier` are the lines before that line.
+pub record StartsPast (c : Config) (before : List Line) (x : NodeId) (printed : List ℕ) : Type 0 where
+  pub partition : PartitionTable
+  pub replica : partition_of c.partitions x ≡ Some partition
+  pub earlier : List Line
+  pub begins : before_begin x.0 before ≡ Some earlier
+  pub trims : (m : NodeId) (ring : RingId) (inst : ℕ) → Has earlier (Trim m ring inst) → has_ring partition.rings ring.0 ≡ true → inst ≤ entry_of partition.rings ring printed

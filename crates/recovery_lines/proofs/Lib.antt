@@ -1,0 +1,9 @@
+pub mod More
+pub mod Printing
+pub mod Trimmed
+pub mod Choosing
+pub mod Beginning
+pub mod Merging
+pub mod Hearing
+pub mod Ticking
+pub mod Saving

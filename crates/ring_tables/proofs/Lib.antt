@@ -1,0 +1,7 @@
+pub mod More
+pub mod Doing
+pub mod Acceptor
+pub mod Reporting
+pub mod Backing
+pub mod Offering
+pub mod Settling

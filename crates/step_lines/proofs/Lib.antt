@@ -1,0 +1,13 @@
+pub mod Words
+pub mod Rounds
+pub mod Handlers
+pub mod Onward
+pub mod Composing
+pub mod Looping
+pub mod Recovery
+pub mod Going
+pub mod Bodies
+pub mod Ending
+pub mod Ticks
+pub mod Whole
+pub mod Opening

@@ -1,0 +1,10 @@
+pub mod Batches
+pub mod Listed
+pub mod Choosing
+pub mod Words
+pub mod Tables
+pub mod Others
+pub mod Learned
+pub mod Going
+pub mod Dispatch
+pub mod Ending
