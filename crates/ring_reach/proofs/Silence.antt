@@ -1,9 +1,9 @@
 -- What a step may do may also be done with empty pages in place of what it tells others: nobody rests on a promise that wasn't sent.
-use Rattle.std.proofs.Common.{◌≡◌, ◌⊎◌, inl, inr, ℕ, ◌<◌, ◌≤◌, List, [], ◌∷◌, Some, refl, sym, ◌∙◌, ap, subst, arith}
+use Rattle.std.proofs.Common.{◌≡◌, ◌⊎◌, inl, inr, ℕ, ◌<◌, ◌≤◌, List, [], ◌∷◌, refl, sym, ◌∙◌, ap, subst, arith}
 use Rattle.std.proofs.lemmas.Bool.{cases_eq}
 use Rattle.quorums.specs.Groups.{Has}
-use Rattle.ring_safety.specs.Faces.{Proposal, Promise, Face, owner, page}
-use Rattle.ring_safety.specs.Deeds.{Deed, Promises, Starts, Proposes, Votes, Trims, done, IsPromised, Backing, May, MayAll, all_done}
+use Rattle.ring_safety.specs.Faces.{Promise, Face, owner, page}
+use Rattle.ring_safety.specs.Deeds.{Deed, Promises, Starts, Proposes, Votes, Trims, done, IsPromised, May, MayAll, all_done}
 use Rattle.ring_safety.specs.Invariant.{Local}
 use Rattle.ring_reach.specs.Reach.{Reaches}
 use Rattle.ring_reach.specs.Silent.{with_promises, Silently}
