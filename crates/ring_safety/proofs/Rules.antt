@@ -14,12 +14,12 @@ below_or_kept : (trim i b r : ℕ) → (trim ≤ i → b < r) → (i < trim) ⊎
 below_or_kept trim i b r h = grind arith
 
 module _ {V : Type 0} (n : ℕ) (w : World V) (sound : Sound n w) where
-  in_pending : (a : ℕ) (f : Face V) → IsFaceOf w a f → Grows f (w a).pending
+  pub in_pending : (a : ℕ) (f : Face V) → IsFaceOf w a f → Grows f (w a).pending
   in_pending a f (inl e) = Grows-trans (Grows-of_eq e) (sound.pending a).grown
   in_pending a f (inr e) = Grows-of_eq e
 
   -- what a face knows as proposed stands in the pending face of the ballot's owner
-  in_owner : (a : ℕ) (f : Face V) → IsFaceOf w a f → (p : Proposal V) → IsProposed n (durables w) f p → Has (w (owner n p.ballot)).pending.proposals p
+  pub in_owner : (a : ℕ) (f : Face V) → IsFaceOf w a f → (p : Proposal V) → IsProposed n (durables w) f p → Has (w (owner n p.ballot)).pending.proposals p
   in_owner a f is p (inl h) = (sound.pending (owner n p.ballot)).grown.proposals p h
   in_owner a f is p (inr h) =
       subst (λ k. Has (w k).pending.proposals p) (sym ((either_face n w sound a f is).owned p h)) ((in_pending a f is).proposals p h)
@@ -30,10 +30,10 @@ module _ {V : Type 0} (n : ℕ) (w : World V) (sound : Sound n w) where
   one_proposed a f is b g iz p q h i same at =
       (sound.pending (owner n q.ballot)).one_value p (subst (λ k. Has (w k).pending.proposals p) (ap (owner n) same) (in_owner a f is p h)) q (in_owner b g iz q i) same at
 
-  keeps_promise : (a : ℕ) (f : Face V) → Local n (durables w) a f → (p : Promise V) → Has f.promises p → KeepsPromise f p
+  pub keeps_promise : (a : ℕ) (f : Face V) → Local n (durables w) a f → (p : Promise V) → Has f.promises p → KeepsPromise f p
   keeps_promise a f k p h = record { promised = k.promised p h; told = k.told_cast p h; not_above = k.told_promised p h; outdone = k.outdone p h }
 
-  keeps_vote : (a : ℕ) (f : Face V) → IsFaceOf w a f → (c : Proposal V) → Has f.casts c → KeepsVote f c
+  pub keeps_vote : (a : ℕ) (f : Face V) → IsFaceOf w a f → (c : Proposal V) → Has f.casts c → KeepsVote f c
   keeps_vote a f is c h =
       let k : Local n (durables w) a f = either_face n w sound a f is in
       record {

@@ -1,0 +1,288 @@
+-- The rules, of histories that stand for worlds of the machine: from what such a history shows, and the machine's rules alone.
+use Rattle.std.proofs.Common.{◌≡◌, ◌⊎◌, inl, inr, ℕ, suc, ◌<◌, ◌≤◌, true, List, Option, Some, None, refl, sym, ◌∙◌, ap, subst, arith}
+use Rattle.mrp_types.specs.declared.id.NodeId.{NodeId}
+use Rattle.mrp_types.specs.declared.value.Value.{Value}
+use Rattle.mrp_types.specs.declared.voted.Decided.{Decided}
+use Rattle.mrp_types.specs.declared.voted.Voted.{Voted}
+use Rattle.mrp_config.specs.Config.{Config}
+use Rattle.mrp_config.specs.declared.tables.RingTable.{RingTable}
+use Rattle.frames.specs.declared.body.Body.TheVariants as body
+use Rattle.quorums.specs.Groups.{Has}
+use Rattle.range_map.specs.Entries.{value_at}
+use Rattle.vote_state.specs.declared.cast.Cast.{Cast}
+use Rattle.vote_state.specs.declared.change.Change.TheVariants as change
+use Rattle.vote_state.specs.Ranges.{cast_at}
+use Rattle.vote_state.specs.State.{State, ring_at}
+use Rattle.ring_safety.specs.Deeds as deeds
+use Rattle.ring_safety.specs.Faces.{Face, Promise, Proposal, Vote, rank, owner}
+use Rattle.ring_safety.specs.Invariant.{Local, Sound}
+use Rattle.ring_safety.specs.Rules.{Grows}
+use Rattle.ring_safety.specs.Rules as rules
+use Rattle.ring_safety.specs.Worlds.{IsFaceOf, Chosen, durables}
+use Rattle.ring_safety.specs.Worlds as machine
+use Rattle.ring_safety.proofs.Choosing.{all_for, one_chosen}
+use Rattle.ring_safety.proofs.Rules.{Chosen-more, in_owner, keeps_vote}
+use Rattle.ring_safety.proofs.Worlds.{either_face}
+use Rattle.ring_reach.specs.Reach.{proposal}
+use Rattle.ring_kept.specs.Kept.{told_of}
+use Rattle.protocol.specs.Lines.{Learn}
+use Rattle.protocol.specs.Node.{Work}
+use Rattle.protocol.specs.Rings.{ring_of}
+use Rattle.ring_tables.specs.Ties.{AcceptSaid, IsRangeChosen, IsRecorded, IsTold, PromiseSaid}
+use Rattle.ring_steps.specs.Stands.{ViewStands, changes_in}
+use Rattle.bare_world.specs.Worlds.{Host}
+use Rattle.ring_runs.specs.Histories.{History}
+use Rattle.ring_runs.specs.Rules.{IsToldUpTo, PromiseRule, IsHeldUpTo, KeepsVote, AreCast, VoteRule, DoneRule, IsFree, IsHighest, Backs, ProposeRule, ChooseRule, OneValueRule, LearnRule}
+use Rattle.ring_runs.specs.Seats.{acceptors, acceptor_at, nobody, position_or, seat, IsDeployed}
+use Rattle.ring_runs.specs.Standing.{HostStands, ReadStands, Tied, WorkStands, WorldStands}
+use Rattle.ring_runs.specs.Votes.{HasCast, HasSent, HasVoted, IsChosen, IsProposed, MayKeep}
+use Rattle.ring_runs.proofs.Growing.{later_grows, one_of}
+use Rattle.ring_runs.proofs.Reading.{Shown, shown, sent_said, cast_there, was_cast, was_cast_at, voted_there, offered, vote_proposed, is_chosen, chosen_there}
+use Rattle.ring_runs.proofs.Static.{seat_at}
+
+told_up_to : (o : Option Cast) (votes : List Voted) (i ballot : ℕ) → cast_at i votes ≡ o → ballot < rank (told_of o) → IsToldUpTo votes i ballot
+told_up_to None votes i ballot e lt = absurd (omega arith)
+told_up_to (Some told) votes i ballot e lt = record { told = told; there = e; below = omega arith }
+
+-- ---- rules of one history
+
+module _ (config : Config) (table : RingTable) (d : IsDeployed config table) (w : machine.World Value) (sound : Sound (acceptors table) w) (h : History) (t : WorldStands config table w h) where
+  -- the pending face of the owner backs each proposal
+  backed_at : (ballot i : ℕ) (value : Value) → IsProposed table h ballot i value
+      → rules.Backed (acceptors table) (durables w) (owner (acceptors table) ballot) (w (owner (acceptors table) ballot)).pending (proposal ballot i value)
+  backed_at ballot i value p = (sound.pending (owner (acceptors table) ballot)).backed (proposal ballot i value) (offered config table d w sound h t ballot i value p)
+
+  module _ (ballot i : ℕ) (value : Value) (p : IsProposed table h ballot i value) where
+    back : rules.Backed (acceptors table) (durables w) (owner (acceptors table) ballot) (w (owner (acceptors table) ballot)).pending (proposal ballot i value)
+    back = backed_at ballot i value p
+
+    -- a member's promise stands in its pending face
+    said_there : (k : ℕ) (q : Promise Value) → deeds.IsPromised (durables w) (owner (acceptors table) ballot) (w (owner (acceptors table) ballot)).pending k q → Has (w k).pending.promises q
+    said_there k q (inl has) = (sound.pending k).grown.promises q has
+    said_there k q (inr own) = subst (λ (x : ℕ). Has (w x).pending.promises q) (sym own.0) own.1
+
+    -- a member's vote of a lower ballot is outdone by what its promise told
+    told_there : (k : ℕ) → k < acceptors table → back.backing.members k ≡ true → (below : ℕ) (other : Value) → HasVoted table h (acceptor_at table k) below i other → below < ballot
+        → below < rank ((back.backing.promise k).told i)
+    told_there k lt is below other v less =
+        let q : Promise Value = back.backing.promise k in
+        let serves = back.backing.serves k lt is in
+        let same : (back.backing.promise k).ballot ≡ ballot = serves.of_ballot in
+        let cast : Has (w k).pending.casts (proposal below i other) =
+        subst (λ (x : ℕ). Has (w x).pending.casts (proposal below i other)) (seat_at config table d k lt) (voted_there config table d w sound h t (acceptor_at table k) below i other v) in
+        (sound.pending k).outdone (back.backing.promise k) (said_there k (back.backing.promise k) (back.backing.made k lt is)) (proposal below i other) cast (omega arith)
+        serves.from_low serves.to_high serves.untrimmed
+
+    due : IsFree table h back.backing.members ballot i ⊎ IsHighest table h back.backing.members ballot i value
+    due = go back.backing.due
+      where
+        go : deeds.IsDue (acceptors table) back.backing.members (λ k. (back.backing.promise k).told i) value → IsFree table h back.backing.members ballot i ⊎ IsHighest table h back.backing.members ballot i value
+        go (inl free) = inl (λ k lt is below other v less.
+            let told = told_there k lt is below other v less in
+            let none = ap (λ (o : Option (Vote Value)). rank o) (free k lt is) in
+            absurd (omega arith))
+        go (inr top) =
+            let tells : rank ((back.backing.promise top.member).told i) ≡ suc top.vote.ballot = ap (λ (o : Option (Vote Value)). rank o) top.tells in
+            let low : rank ((back.backing.promise top.member).told i) ≤ ballot = back.lower top.member top.below top.is_member in
+            let local : Local (acceptors table) (durables w) top.member (w top.member).pending = sound.pending top.member in
+            let cast : Has (w top.member).pending.casts (proposal top.vote.ballot i top.vote.value) =
+            local.told_cast (back.backing.promise top.member) (said_there top.member (back.backing.promise top.member) (back.backing.made top.member top.below top.is_member)) i top.vote top.tells in
+            inr (record {
+              highest = top.vote.ballot;
+              lower = omega arith;
+              outdone = λ k lt is below other v less.
+                  let told = told_there k lt is below other v less in
+                  let most : rank ((back.backing.promise k).told i) ≤ rank ((back.backing.promise top.member).told i) = top.highest k lt is in
+                  omega arith;
+              same = λ other q. one_top other q (in_owner_of top.member (proposal top.vote.ballot i top.vote.value) cast) ∙ sym top.same;
+            })
+          where
+            in_owner_of : (k : ℕ) (c : Proposal Value) → Has (w k).pending.casts c → Has (w (owner (acceptors table) c.ballot)).pending.proposals c
+            in_owner_of k c has = in_owner (acceptors table) w sound k (w k).pending (inr refl) c ((sound.pending k).proposed c has)
+
+            one_top : (other : Value) → IsProposed table h top.vote.ballot i other
+                → Has (w (owner (acceptors table) top.vote.ballot)).pending.proposals (proposal top.vote.ballot i top.vote.value) → other ≡ top.vote.value
+            one_top other q has =
+                (sound.pending (owner (acceptors table) top.vote.ballot)).one_value (proposal top.vote.ballot i other) (offered config table d w sound h t top.vote.ballot i other q)
+                (proposal top.vote.ballot i top.vote.value) has refl refl
+
+    backs : Backs table h ballot i value
+    backs = record {
+      members = back.backing.members;
+      majority = back.backing.majority;
+      promised = λ k lt is ne state keeps.
+          let q : Promise Value = back.backing.promise k in
+          let same : (back.backing.promise k).ballot ≡ ballot = (back.backing.serves k lt is).of_ballot in
+          let s : Shown table w (acceptor_at table k) state = shown config table d w sound h t (acceptor_at table k) state keeps in
+          let made : Has (durables w (seat table (acceptor_at table k))).promises (back.backing.promise k) =
+          subst (λ (x : ℕ). Has (durables w x).promises (back.backing.promise k)) (sym (seat_at config table d k lt)) (elsewhere k (back.backing.promise k) ne (back.backing.made k lt is)) in
+          let local : Local (acceptors table) (durables w) (seat table (acceptor_at table k)) s.face = either_face (acceptors table) w sound (seat table (acceptor_at table k)) s.face s.is in
+          let low : (back.backing.promise k).ballot ≤ s.face.promise = local.promised (back.backing.promise k) (local.grown.promises (back.backing.promise k) made) in
+          let face : s.face.promise ≡ (ring_at state table.id).promise = s.ties.promise in
+          omega arith;
+      due = due;
+    }
+      where
+        elsewhere : (k : ℕ) (q : Promise Value) → (k ≡ owner (acceptors table) ballot → ⊥)
+            → deeds.IsPromised (durables w) (owner (acceptors table) ballot) (w (owner (acceptors table) ballot)).pending k q → Has (durables w k).promises q
+        elsewhere k q ne (inl has) = has
+        elsewhere k q ne (inr own) = absurd (ne own.0)
+
+  pub propose_rule : ProposeRule table h
+  propose_rule = record {
+    one = λ ballot i u v p q.
+        (sound.pending (owner (acceptors table) ballot)).one_value (proposal ballot i u) (offered config table d w sound h t ballot i u p) (proposal ballot i v)
+        (offered config table d w sound h t ballot i v q) refl refl;
+    backed = backs;
+  }
+
+  range_chosen : (range : Decided) → IsRangeChosen (acceptors table) (durables w) range → (i : ℕ) → range.lo ≤ i → i < range.hi → IsChosen table h i range.value
+  range_chosen range c i from to = is_chosen config table d w sound h t i range.value (c i from to)
+
+  pub learn_rule : LearnRule table h
+  learn_rule = record {
+    decide = λ id lo hi left value sent. range_chosen (record { lo = lo; hi = hi; value = value }) (sent_said config table d w sound h t id (body.Decide table.id lo hi left value) sent refl);
+    chosen = λ id ranges sent range has.
+        range_chosen range (one_of (IsRangeChosen (acceptors table) (durables w)) ranges range has (sent_said config table d w sound h t id (body.Chosen table.id ranges) sent refl));
+    learner = λ id view up p there i value e.
+        let stands : ViewStands (ring_of config id table) (durables w) (w (seat table id)).durable view =
+        subst (λ (x : Host). HostStands config table w id (h.stopped id.0) x) up (t.hosts id) in
+        is_chosen config table d w sound h t i value ((stands.part p there).ties.learner.chosen i value e);
+    line = λ id lo hi value has.
+        let told : IsTold (ring_of config nobody table) (durables w) (Learn id table.id lo hi value) =
+        one_of (IsTold (ring_of config nobody table) (durables w)) h.world.lines (Learn id table.id lo hi value) has t.lines in
+        range_chosen (record { lo = lo; hi = hi; value = value }) (told refl);
+  }
+
+  masks : (id : NodeId) (ballot lo hi mask : ℕ) (value : Value) → HasSent h id (body.Accept table.id ballot lo hi mask value) → AreCast table h ballot lo hi mask value
+  masks id ballot lo hi mask value sent k bit =
+      let said : AcceptSaid (acceptors table) (durables w) ballot lo hi mask value = sent_said config table d w sound h t id (body.Accept table.id ballot lo hi mask value) sent refl in
+      let low = said.member k bit in
+      (low, λ i from to. was_cast_at config table d w sound h t k ballot i value low (said.cast k i bit from to))
+
+  held : (id : NodeId) (state : State) → MayKeep (h.world.hosts id.0) state → (i : ℕ) (vote : Cast) → value_at i (ring_at state table.id).votes ≡ Some vote
+      → (vote.ballot ≤ (ring_at state table.id).promise) × ((ring_at state table.id).trim ≤ i)
+  held id state keeps i vote e =
+      let s : Shown table w id state = shown config table d w sound h t id state keeps in
+      let local : Local (acceptors table) (durables w) (seat table id) s.face = either_face (acceptors table) w sound (seat table id) s.face s.is in
+      let v : s.face.votes i ≡ Some (record { ballot = vote.ballot; value = vote.value }) = s.ties.votes i ∙ ap (λ (o : Option Cast). told_of o) e in
+      let promised = local.held_promised i (record { ballot = vote.ballot; value = vote.value }) v in
+      let untrimmed = local.held_untrimmed i (record { ballot = vote.ballot; value = vote.value }) v in
+      let promise : s.face.promise ≡ (ring_at state table.id).promise = s.ties.promise in
+      let trim : s.face.trim ≡ (ring_at state table.id).trim = s.ties.trim in
+      (omega arith, omega arith)
+
+-- ---- rules of an earlier and a later history
+
+module _ (config : Config) (table : RingTable) (d : IsDeployed config table) (from : machine.World Value) (early late : History)
+    (t : Tied config table from early) (after : Tied config table t.machine_world late) where
+  more : (k : ℕ) → Grows (durables t.machine_world k) (durables after.machine_world k)
+  more = later_grows (acceptors table) t.machine_world after.machine_world t.sound after.later
+
+  shown_late : (id : NodeId) (state : State) → MayKeep (late.world.hosts id.0) state → Shown table after.machine_world id state
+  shown_late = shown config table d after.machine_world after.sound late after.stands
+
+  pub promise_rule : PromiseRule table early late
+  promise_rule id ballot lo hi trim votes member sent =
+      let said : PromiseSaid (durables t.machine_world member.position) ballot lo hi trim votes =
+      sent_said config table d t.machine_world t.sound early t.stands id (body.Promise table.id ballot lo hi trim votes) sent refl member.position member.there in
+      let here : seat table id ≡ member.position = ap (λ o. position_or (acceptors table) id o) member.there in
+      let made : Has (durables after.machine_world (seat table id)).promises said.promise =
+      (more (seat table id)).promises said.promise (subst (λ (x : ℕ). Has (durables t.machine_world x).promises said.promise) (sym here) said.made) in
+      let same : said.promise.ballot ≡ ballot = said.of_ballot in
+      record {
+        promised = λ state keeps.
+            let s : Shown table after.machine_world id state = shown_late id state keeps in
+            let local : Local (acceptors table) (durables after.machine_world) (seat table id) s.face = either_face (acceptors table) after.machine_world after.sound (seat table id) s.face s.is in
+            let low : said.promise.ballot ≤ s.face.promise = local.promised said.promise (local.grown.promises said.promise made) in
+            let face : s.face.promise ≡ (ring_at state table.id).promise = s.ties.promise in
+            omega arith;
+        outdone = λ lower i value from to above v less.
+            let from_low : said.promise.low ≡ lo = said.low in
+            let to_high : said.promise.high ≡ hi = said.high in
+            let trimmed : said.promise.trim ≡ trim = said.trimmed in
+            let local : Local (acceptors table) (durables after.machine_world) (seat table id) (after.machine_world (seat table id)).pending = after.sound.pending (seat table id) in
+            let cast : Has (after.machine_world (seat table id)).pending.casts (proposal lower i value) =
+            voted_there config table d after.machine_world after.sound late after.stands id lower i value v in
+            let out = local.outdone said.promise (local.grown.promises said.promise made) (proposal lower i value) cast (omega arith) (omega arith) (omega arith) (omega arith) in
+            told_up_to (cast_at i votes) votes i lower refl (subst (λ (o : Option (Vote Value)). lower < rank o) (said.told i) out);
+      }
+
+  held_up_to : (f : Face Value) (ballot i : ℕ) (value : Value) (o : Option Cast) → f.votes i ≡ told_of o → rules.KeepsVote f (proposal ballot i value) → (i < f.trim) ⊎ IsHeldUpTo ballot value o
+  held_up_to f ballot i value None e k = go k.kept
+    where
+      go : (i < f.trim) ⊎ (ballot < rank (f.votes i)) → (i < f.trim) ⊎ ⊥
+      go (inl below) = inl below
+      go (inr lt) = let zero = ap (λ (o : Option (Vote Value)). rank o) e in absurd (omega arith)
+  held_up_to f ballot i value (Some held) e k = go k.kept
+    where
+      go : (i < f.trim) ⊎ (ballot < rank (f.votes i)) → (i < f.trim) ⊎ ((ballot ≤ held.ballot) × (ballot ≡ held.ballot → value ≡ held.value))
+      go (inl below) = inl below
+      go (inr lt) =
+          let is = ap (λ (o : Option (Vote Value)). rank o) e in
+          inr (omega arith, λ same. sym (k.same (record { ballot = held.ballot; value = held.value }) e (sym same)))
+
+  cast_kept : (id : NodeId) (ballot i : ℕ) (value : Value) → HasCast table early id ballot i value → (state : State) → MayKeep (late.world.hosts id.0) state → KeepsVote table ballot i value state
+  cast_kept id ballot i value c state keeps =
+      let s : Shown table after.machine_world id state = shown_late id state keeps in
+      let local : Local (acceptors table) (durables after.machine_world) (seat table id) s.face = either_face (acceptors table) after.machine_world after.sound (seat table id) s.face s.is in
+      let cast : Has s.face.casts (proposal ballot i value) =
+      local.grown.casts (proposal ballot i value) ((more (seat table id)).casts (proposal ballot i value) (cast_there config table d t.machine_world t.sound early t.stands id ballot i value c)) in
+      let kept : rules.KeepsVote s.face (proposal ballot i value) = keeps_vote (acceptors table) after.machine_world after.sound (seat table id) s.face s.is (proposal ballot i value) cast in
+      let low : ballot ≤ s.face.promise = kept.promised in
+      let face : s.face.promise ≡ (ring_at state table.id).promise = s.ties.promise in
+      let trim : s.face.trim ≡ (ring_at state table.id).trim = s.ties.trim in
+      record {
+        promised = omega arith;
+        kept = subst (λ (x : ℕ). (i < x) ⊎ IsHeldUpTo ballot value (value_at i (ring_at state table.id).votes)) trim
+            (held_up_to s.face ballot i value (value_at i (ring_at state table.id).votes) (s.ties.votes i) kept);
+      }
+
+  pub vote_rule : VoteRule table early late
+  vote_rule = record {
+    proposed = vote_proposed config table d after.machine_world after.sound late after.stands;
+    masks = masks config table d after.machine_world after.sound late after.stands;
+    held = held config table d after.machine_world after.sound late after.stands;
+    kept = cast_kept;
+  }
+
+  pub done_rule : DoneRule table early late
+  done_rule = record {
+    works = λ id work has. one_of (λ (e : NodeId × Work). Has early.done e) early.world.works (id, work) has t.stands.works;
+    read = λ id state has i vote e.
+        let r : ReadStands table t.machine_world (id, state) = one_of (ReadStands table t.machine_world) early.world.read (id, state) has t.stands.read in
+        was_cast config table d t.machine_world t.sound early t.stands id vote.ballot i vote.value (r.cast i vote e);
+    promised = λ id work ballot has recorded state keeps.
+        let s : Shown table after.machine_world id state = shown_late id state keeps in
+        let all : WorkStands table t.machine_world (id, work) = one_of (WorkStands table t.machine_world) early.done (id, work) has t.stands.done in
+        let low : ballot ≤ (durables t.machine_world (seat table id)).promise =
+        one_of (IsRecorded table.id (durables t.machine_world (seat table id))) (changes_in work) (change.Promise table.id ballot) recorded all refl in
+        let up = (more (seat table id)).promise in
+        let on = (either_face (acceptors table) after.machine_world after.sound (seat table id) s.face s.is).grown.promise in
+        let face : s.face.promise ≡ (ring_at state table.id).promise = s.ties.promise in
+        omega arith;
+    kept = λ id before has state keeps.
+        let s : Shown table after.machine_world id state = shown_late id state keeps in
+        let r : ReadStands table t.machine_world (id, before) = one_of (ReadStands table t.machine_world) early.world.read (id, before) has t.stands.read in
+        let low = r.promise in
+        let up = (more (seat table id)).promise in
+        let on = (either_face (acceptors table) after.machine_world after.sound (seat table id) s.face s.is).grown.promise in
+        let face : s.face.promise ≡ (ring_at state table.id).promise = s.ties.promise in
+        omega arith;
+  }
+
+  pub choose_rule : ChooseRule table early late
+  choose_rule ballot i value c higher other le p =
+      let chosen : Chosen (acceptors table) (durables after.machine_world) (proposal ballot i value) =
+      Chosen-more (acceptors table) (durables t.machine_world) (durables after.machine_world) more (proposal ballot i value)
+      (chosen_there config table d t.machine_world t.sound early t.stands ballot i value c) in
+      all_for (acceptors table) (durables after.machine_world) after.sound.durable (proposal ballot i value) chosen (suc higher) (owner (acceptors table) higher)
+      (after.machine_world (owner (acceptors table) higher)).pending (after.sound.pending (owner (acceptors table) higher)) (proposal higher i other)
+      (offered config table d after.machine_world after.sound late after.stands higher i other p) refl le (omega arith)
+
+  pub one_value_rule : OneValueRule table early late
+  one_value_rule i u v c e =
+      one_chosen (acceptors table) (durables after.machine_world) after.sound.durable (proposal c.ballot i u) (proposal e.ballot i v)
+      (Chosen-more (acceptors table) (durables t.machine_world) (durables after.machine_world) more (proposal c.ballot i u)
+      (chosen_there config table d t.machine_world t.sound early t.stands c.ballot i u c.chosen))
+      (chosen_there config table d after.machine_world after.sound late after.stands e.ballot i v e.chosen) refl

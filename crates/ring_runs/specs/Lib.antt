@@ -1,0 +1,5 @@
+pub mod Seats
+pub mod Histories
+pub mod Standing
+pub mod Votes
+pub mod Rules
