@@ -1,2 +1,2 @@
-mod Clients
-mod Running
+pub mod Clients
+pub mod Running
