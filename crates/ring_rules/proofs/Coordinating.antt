@@ -40,12 +40,9 @@ use Rattle.ring_kept.proofs.Keeping.{kept_trimmed}
 use Rattle.ring_tables.specs.Ties.{acceptors, IsOutstanding, RoleTies, LearnerTies, PartTies, PromiseSaid, IsSaid, IsRangeChosen, IsChosen}
 use Rattle.ring_tables.proofs.More.{RoleTies-more, PromiseSaid-more}
 use Rattle.ring_tables.specs.Done.{DidTies, After}
-use Rattle.ring_tables.proofs.Doing.{said_sends, did_none, did_frames, done_changed}
+use Rattle.ring_tables.proofs.Doing.{same_number, said_sends, did_none, did_frames, done_changed}
 use Rattle.ring_tables.proofs.Reporting.{reports_ordered, reported_page}
 use Rattle.ring_tables.proofs.Offering.{proposes_after_ties}
-
-same_number : (x : ℕ) → nat_eq x x ≡ true
-same_number x = grind (arith, nat_tests)
 
 filtered : {T : Type 0} (P : T → Type 0) (test : T → Bool) (xs : List T) → AllByRecursion P xs → AllByRecursion P (filter test xs)
 filtered P test [] all = tt
