@@ -151,7 +151,8 @@ module _ (ring : Ring) (faces : ℕ → Face Value) (a : ℕ) (seat : position_o
       → DidTies ring faces a start kept f did → DidTies ring faces a start kept f (reported ring from page did)
   did_reported f did from page trim said le t = by_role did.part.coordinator.role t.role (position_of ring from) refl
     where
-      by_role : (role : Role) → RoleTies (acceptors ring) (seen faces a f) f role → (o : Option ℕ) → position_of ring from ≡ o → DidTies ring faces a start kept f (reported_at ring from page role o did)
+      by_role : (role : Role) → RoleTies (acceptors ring) (seen faces a f) f role → (o : Option ℕ) → position_of ring from ≡ o
+          → DidTies ring faces a start kept f (reported_at ring from page role o did)
       by_role Idle r o e = t
       by_role (Active campaign) r None e = t
       by_role (Active campaign) r (Some k) e = by_test (counts page campaign.ballot (slice_index campaign.covered k)) refl

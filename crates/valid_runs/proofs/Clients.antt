@@ -101,7 +101,8 @@ module _ (config : Config) where
       at None is = idles_valid c v
       at (Some a) is = go ((a.ticks + 1) % config.resend == 0)
         where
-          go : (b : Bool) → ClientDidValid config (if b then sends_it config c (record a { ticks = a.ticks + 1; tries = a.tries + 1 }) else idles (record c { asked = Some (record a { ticks = a.ticks + 1 }) }))
+          go : (b : Bool)
+              → ClientDidValid config (if b then sends_it config c (record a { ticks = a.ticks + 1; tries = a.tries + 1 }) else idles (record c { asked = Some (record a { ticks = a.ticks + 1 }) }))
           go true = sends_valid c (record a { ticks = a.ticks + 1; tries = a.tries + 1 }) v.numbered (record { asked = is.asked; numbered = is.numbered; short = is.short })
           go false = idles_valid (record c { asked = Some (record a { ticks = a.ticks + 1 }) }) (record { numbered = v.numbered; asked = record { asked = is.asked; numbered = is.numbered; short = is.short } })
 
