@@ -6,3 +6,4 @@ pub mod Running
 pub mod Reading
 pub mod Ruling
 pub mod Whole
+pub mod Faithful

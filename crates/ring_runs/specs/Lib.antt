@@ -3,3 +3,4 @@ pub mod Histories
 pub mod Standing
 pub mod Votes
 pub mod Rules
+pub mod Lines

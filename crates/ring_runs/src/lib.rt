@@ -17,6 +17,7 @@ ghost use Rattle.ring_safety.specs.Worlds as machine;
 ghost use Rattle.bare_world.specs.Runs.{MayRun, run};
 ghost use Rattle.bare_world.specs.Worlds.{Happening, nothing};
 ghost use Rattle.ring_runs.specs.Histories.{History, at_first, history};
+ghost use Rattle.ring_runs.specs.Lines.{AreFaithful};
 ghost use Rattle.ring_runs.specs.Rules.{ChooseRule, DoneRule, LearnRule, OneValueRule, PromiseRule, ProposeRule, VoteRule};
 ghost use Rattle.ring_runs.specs.Standing.{Tied};
 
@@ -76,4 +77,11 @@ pub fn one_value()
 /// of the ring's acceptors has cast it there in one ballot.
 pub fn learn()
     ensures { (config : Config) (table : RingTable) → IsValid config → Has config.rings table → (xs : List Happening) → MayRun config nothing xs → LearnRule table (history config xs at_first) }
+{}
+
+/// F1: each learn line of every run names a node and a ring of which that is a member, has a range that isn't empty, ends at the
+/// end of all instances at most and has a batch only alone, and has the value of each earlier learn line of the ring that covers
+/// an instance of it.
+pub fn learn_lines_are_faithful()
+    ensures { (config : Config) → IsValid config → (xs : List Happening) → MayRun config nothing xs → AreFaithful config (run config xs nothing).lines }
 {}
