@@ -184,7 +184,7 @@ module _ (config : Config) (deployed : AreNumbered config) where
   happens_valid (Crashes id cause) w v may = crashes_valid id cause (w.hosts id.0) w (v.hosts id.0) v
   happens_valid (Opens id after journal checks) w v may = opens_valid id after journal checks (w.hosts id.0) w (v.hosts id.0) may v
   happens_valid (Fails id after left cause) w v may = fails_valid id after left cause (w.hosts id.0) w (v.hosts id.0) may.1 v
-  happens_valid (Asks id command) w v may = client_valid id _ w (asks_valid config (w.clients id.0) (v.clients id.0) command may.1) v
+  happens_valid (Asks id command) w v may = client_valid id _ w (asks_valid config (w.clients id.0) (v.clients id.0) command may.1.valid) v
   happens_valid (ClientTicks id) w v may = client_valid id _ w (ticks_valid config (w.clients id.0) (v.clients id.0)) v
   happens_valid (ClientTakes id b) w v may = client_valid id _ w (takes_valid config (w.clients id.0) (v.clients id.0) b) v
   happens_valid (Shows id) w v may = printed (line.State id (state_of_host (w.hosts id.0))) w tt v
