@@ -6,7 +6,8 @@ use Rattle.frames.specs.declared.body.Body.{Body}
 use Rattle.frames.specs.declared.body.Body.TheVariants as body
 use Rattle.frames.specs.declared.sent.Sent.{Sent}
 use Rattle.protocol.specs.Lines.{Line, Learn}
-use Rattle.protocol.specs.Node.{Acting, RingPart}
+use Rattle.vote_state.specs.declared.change.Change.{Change}
+use Rattle.protocol.specs.Node.{Acting, RingPart, Work, Records}
 
 -- ---- frames and lines that say nothing of what a ring has promised, voted or decided
 
@@ -63,3 +64,9 @@ pub record Untouched (old new : Acting) : Type 0 where
   pub frames : Follows IsQuietSent old.frames new.frames
   pub replies : Follows IsQuietSent old.replies new.replies
   pub lines : Follows IsNoLearn old.lines new.lines
+
+-- ---- what a step records
+
+abbrev pub changes_in : Work → List Change
+changes_in (Records changes) = changes
+changes_in other = []

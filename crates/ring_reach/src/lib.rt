@@ -13,6 +13,7 @@ ghost use Rattle.ring_safety.specs.Rules.{Grows};
 ghost use Rattle.ring_safety.specs.Worlds.{World, durables};
 ghost use Rattle.ring_reach.specs.Lifts.{HasStepped, WasStopped};
 ghost use Rattle.ring_reach.specs.Reach.{Proposing, Reaches, Voting, proposal, seen};
+ghost use Rattle.ring_reach.specs.Silent.{Silently};
 
 /// What is reached by deeds that may be done, one after another: nothing that was said is lost, the invariant is kept, and a
 /// node may go on from there.
@@ -51,4 +52,12 @@ pub fn a_range_may_be_proposed<V>()
 pub fn a_step_is_an_event<V>()
     ensures ended { (n : ℕ) (w : World V) → Sound n w → (a : ℕ) (g : Face V) → Reaches n (durables w) a (w a).durable g → HasStepped n w a g }
     ensures stopped { (n : ℕ) (w : World V) → Sound n w → (a : ℕ) (g : Face V) → Reaches n (durables w) a (w a).durable g → WasStopped n w a g }
+{}
+
+/// What a step may do may also be done with nothing told to others: the same face is reached but for promises, of which each new
+/// one with a page that isn't empty is of a ballot that the node owns. So a step that is stopped, of which no frame was sent,
+/// leaves no promise behind that others could miss.
+pub fn a_stopped_step_tells_nothing<V>()
+    ensures { (n : ℕ) (faces : ℕ → Face V) (a : ℕ) → ((k : ℕ) → Local n faces k (faces k)) → (f : Face V) → Local n faces a f → (g : Face V)
+        → Reaches n faces a f g → Silently n faces a f g }
 {}

@@ -1,4 +1,5 @@
--- What a rule of one ring makes is nothing to another ring: its changes and its frames are of its own ring. Here of the acceptor's table and of proposing.
+-- What a rule of one ring makes is nothing to another ring: its changes and its frames are of its own ring. Here the acceptor's
+-- rules and proposing.
 use Rattle.std.proofs.Common.{◌≡◌, ℕ, zero, suc, ◌-◌, Bool, true, false, List, [], ◌∷◌, length, Option, Some, None, refl, sym, ◌∙◌, ap, arith}
 use Rattle.std.specs.Prelude.{◌==◌, nat_eq, nat_lt, nat_le, not, if◌then◌else◌, count_ones, ◌||◌}
 use Rattle.std.specs.List.{AllByRecursion}

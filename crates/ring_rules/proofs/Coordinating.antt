@@ -40,12 +40,9 @@ use Rattle.ring_kept.proofs.Keeping.{kept_trimmed}
 use Rattle.ring_tables.specs.Ties.{acceptors, IsOutstanding, RoleTies, LearnerTies, PartTies, PromiseSaid, IsSaid, IsRangeChosen, IsChosen}
 use Rattle.ring_tables.proofs.More.{RoleTies-more, PromiseSaid-more}
 use Rattle.ring_tables.specs.Done.{DidTies, After}
-use Rattle.ring_tables.proofs.Doing.{said_sends, did_none, did_frames, done_changed}
+use Rattle.ring_tables.proofs.Doing.{same_number, said_sends, did_none, did_frames, done_changed}
 use Rattle.ring_tables.proofs.Reporting.{reports_ordered, reported_page}
 use Rattle.ring_tables.proofs.Offering.{proposes_after_ties}
-
-same_number : (x : ℕ) → nat_eq x x ≡ true
-same_number x = grind (arith, nat_tests)
 
 filtered : {T : Type 0} (P : T → Type 0) (test : T → Bool) (xs : List T) → AllByRecursion P xs → AllByRecursion P (filter test xs)
 filtered P test [] all = tt
@@ -154,7 +151,8 @@ module _ (ring : Ring) (faces : ℕ → Face Value) (a : ℕ) (seat : position_o
       → DidTies ring faces a start kept f did → DidTies ring faces a start kept f (reported ring from page did)
   did_reported f did from page trim said le t = by_role did.part.coordinator.role t.role (position_of ring from) refl
     where
-      by_role : (role : Role) → RoleTies (acceptors ring) (seen faces a f) f role → (o : Option ℕ) → position_of ring from ≡ o → DidTies ring faces a start kept f (reported_at ring from page role o did)
+      by_role : (role : Role) → RoleTies (acceptors ring) (seen faces a f) f role → (o : Option ℕ) → position_of ring from ≡ o
+          → DidTies ring faces a start kept f (reported_at ring from page role o did)
       by_role Idle r o e = t
       by_role (Active campaign) r None e = t
       by_role (Active campaign) r (Some k) e = by_test (counts page campaign.ballot (slice_index campaign.covered k)) refl

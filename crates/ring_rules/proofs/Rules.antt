@@ -1,4 +1,4 @@
--- What each other rule of a ring makes is of that ring: the rules that Apart has not.
+-- What each other rule of a ring makes is of that ring: coordinators, learners, what is sent again, the leveller and rounds.
 use Rattle.std.proofs.Common.{ℕ, zero, suc, ◌^◌, Bool, true, false, List, [], ◌∷◌, length, max, Option, Some, None, refl}
 use Rattle.std.specs.Prelude.{◌==◌, nat_lt, nat_le, if◌then◌else◌, ◌&&◌, slice_index}
 use Rattle.std.specs.List.{AllByRecursion}

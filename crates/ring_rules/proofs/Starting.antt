@@ -39,11 +39,8 @@ use Rattle.ring_kept.specs.Kept.{told_of, KeptTies}
 use Rattle.ring_tables.specs.Ties.{acceptors, Reports, CampaignTies, PartTies, BodySaid, IsSaid}
 use Rattle.ring_tables.proofs.More.{appended, told_on}
 use Rattle.ring_tables.specs.Done.{DoneTies, DidTies, After}
-use Rattle.ring_tables.proofs.Doing.{said_sends, did_none, did_frames, done_changed}
+use Rattle.ring_tables.proofs.Doing.{same_number, said_sends, did_none, did_frames, done_changed}
 use Rattle.ring_tables.proofs.Offering.{proposes_after_ties}
-
-same_number : (x : ℕ) → nat_eq x x ≡ true
-same_number x = grind (arith, nat_tests)
 
 pub said_sends_each : (ring : Ring) (now : ℕ → Face Value) (nodes : List NodeId) (b : Body) → BodySaid ring now ring.own b → AllByRecursion (IsSaid ring now) (sends_each ring nodes b)
 said_sends_each ring now [] b s = tt

@@ -188,7 +188,8 @@ module _ (config : Config) (ring : Ring) (faces : ℕ → Face Value) (a : ℕ) 
 
   -- ---- frames
 
-  submit_goes : (fr : RingId) (hops : ℕ) (client : ClientId) (seq : ℕ) (command : List ℕ) (f : Face Value) (acting : Acting) → Way f acting → Goes f (takes_submit config fr hops client seq command acting)
+  submit_goes : (fr : RingId) (hops : ℕ) (client : ClientId) (seq : ℕ) (command : List ℕ) (f : Face Value) (acting : Acting) → Way f acting
+      → Goes f (takes_submit config fr hops client seq command acting)
   submit_goes fr hops client seq command f acting w = go (is_for config fr (command_of command))
     where
       go : (b : Bool) → Goes f (if b then at_acceptor (λ r part b. does config r (submits r b.view.link part hops client seq command) b) (part_at acting.view fr) acting else acting)
@@ -355,7 +356,8 @@ module _ (config : Config) (ring : Ring) (faces : ℕ → Face Value) (a : ℕ) 
             other = λ r part. of_resends r now.view.link part;
           })
 
-      asked : (b : Bool) (g : Face Value) (now : Acting) → Way g now → Goes g ((if b then rules_for config fr (λ r part view. asks_round r view.link part (safe_of view fr view.service)) else (λ x. x)) now)
+      asked : (b : Bool) (g : Face Value) (now : Acting) → Way g now
+          → Goes g ((if b then rules_for config fr (λ r part view. asks_round r view.link part (safe_of view fr view.service)) else (λ x. x)) now)
       asked false g now v = stays g now v
       asked true g now v = tick_goes g now v fr (λ r part view. asks_round r view.link part (safe_of view fr view.service))
           (record {

@@ -83,7 +83,8 @@ module _ (ring other : Ring) (ne : other.id.0 ≡ ring.id.0 → ⊥) where
     learns_leaves zero q = Leaves-refl ring q.acting
     learns_leaves (suc most) q = go q.ranges (λ r. learns_leaves most r)
       where
-        go : (ranges : List Decided) → ((r : Queued) → Leaves ring r.acting (learns_up_to most config other r)) → Leaves ring q.acting (then_learns (learns_up_to most config other) config other q ranges)
+        go : (ranges : List Decided) → ((r : Queued) → Leaves ring r.acting (learns_up_to most config other r))
+            → Leaves ring q.acting (then_learns (learns_up_to most config other) config other q ranges)
         go [] rest = Leaves-refl ring q.acting
         go (range ∷ later) rest =
             Leaves-trans ring (one_leaves range later (part_at q.acting.view other.id) q.acting) (rest (learns_one config other range later (part_at q.acting.view other.id) q.acting))

@@ -186,7 +186,8 @@ module _ (config : Config) (ring : Ring) (faces : ℕ → Face Value) (a : ℕ) 
         (subst (λ (x : Journal). OnWay ring faces a start x (PartFine ring) w.face acting) (sym same) w.way)
 
     -- nothing is done at the ring
-    quiet : (did : Stepped) → did.view.journal.state ≡ view.journal.state → did.view.parts ≡ view.parts → did.frames ≡ [] → AllByRecursion (IsTold ring (seen faces a start)) did.lines → changes_in did.work ≡ [] → StepStands ring faces a start did
+    quiet : (did : Stepped) → did.view.journal.state ≡ view.journal.state → did.view.parts ≡ view.parts → did.frames ≡ [] → AllByRecursion (IsTold ring (seen faces a start)) did.lines
+        → changes_in did.work ≡ [] → StepStands ring faces a start did
     quiet did state parts frames lines work = record {
       face = start;
       reached = reach_none (acceptors ring) faces a start;

@@ -12,6 +12,7 @@ use Rattle.ring_safety.specs.Faces.{Face}
 use Rattle.ring_kept.specs.Kept.{KeptTies}
 use Rattle.ring_tables.specs.Ties.{acceptors, PartTies, SaidBy, IsSaid, IsTold, AreRecorded, AreTold}
 use Rattle.ring_tables.specs.Settled.{PartFine}
+pub use Rattle.beside_rings.specs.Beside.{changes_in}
 
 pub record PartStands (ring : Ring) (now : ℕ → Face Value) (f : Face Value) (view : View) (p : RingPart) : Type 0 where
   pub of_ring : p.ring ≡ ring
@@ -29,11 +30,6 @@ pub record ViewStands (ring : Ring) (now : ℕ → Face Value) (f : Face Value) 
 abbrev pub EventSaid : Ring → (ℕ → Face Value) → Event → Type 0
 EventSaid ring faces (Takes frame) = SaidBy ring faces frame.from frame.body
 EventSaid ring faces other = Unit {0}
-
--- the changes that a step records
-abbrev pub changes_in : Work → List Change
-changes_in (Records changes) = changes
-changes_in other = []
 
 -- What a step makes: deeds that may be done, and a view and frames that stand for the face that they lead to.
 pub record StepStands (ring : Ring) (faces : ℕ → Face Value) (a : ℕ) (start : Face Value) (did : Stepped) : Type 0 where

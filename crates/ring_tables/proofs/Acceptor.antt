@@ -190,8 +190,13 @@ module _ (ring : Ring) (faces : ℕ → Face Value) (a : ℕ) (seat : position_o
       tails = rest f did.part.kept lo t.done.kept (local_at f did t).held_untrimmed
 
       new : Promise Value
-      new = record { ballot = ballot; low = lo; high = page_end (rest f did.part.kept lo t.done.kept (local_at f did t).held_untrimmed); trim = f.trim;
-        told = page f.votes lo (page_end (rest f did.part.kept lo t.done.kept (local_at f did t).held_untrimmed)) }
+      new = record {
+        ballot = ballot;
+        low = lo;
+        high = page_end (rest f did.part.kept lo t.done.kept (local_at f did t).held_untrimmed);
+        trim = f.trim;
+        told = page f.votes lo (page_end (rest f did.part.kept lo t.done.kept (local_at f did t).held_untrimmed));
+      }
 
       frame : Sent
       frame = record { to = Node to; frame = record { from = Node ring.own; body = promise_of ring ballot lo did.part.kept } }

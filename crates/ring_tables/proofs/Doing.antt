@@ -37,7 +37,7 @@ use Rattle.ring_kept.proofs.Keeping.{kept_promised, kept_voted, kept_held, not_h
 use Rattle.ring_tables.specs.Ties.{acceptors, IsRangeChosen, RoleTies, LearnerTies, PartTies, BodySaid, IsSaid, IsVotedIn, AreRecorded, AreTold}
 use Rattle.ring_tables.proofs.More.{mapped, appended, IsRangeChosen-more, LearnerTies-more, all_said_more, none_recorded, recorded_on, recorded_both, told_more, told_on}
 
-same_number : (x : ℕ) → nat_eq x x ≡ true
+pub same_number : (x : ℕ) → nat_eq x x ≡ true
 same_number x = grind (arith, nat_tests)
 
 -- a frame of the own node

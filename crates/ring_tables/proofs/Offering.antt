@@ -88,7 +88,8 @@ module _ (ring : Ring) (campaign : Campaign) (held : List (ℕ × Value)) (p : I
       subst (λ r. IsOffer ring campaign r) (some_range e)
       (single_offer (batch_bytes (entry ∷ entries)) (fresh_agrees (value_at campaign.next campaign.reports) (not (leads_now ring campaign) || nat_lt (suc campaign.next) (reported_to campaign.reports)) due (Batch (batch_bytes (entry ∷ entries)))))
 
-  pub chosen_offer : (due : Option Value) → due_at ring campaign campaign.next ≡ due → (range : Decided) (taken : ℕ) → choice_of ring campaign held due ≡ Offers range taken → IsOffer ring campaign range
+  pub chosen_offer : (due : Option Value) → due_at ring campaign campaign.next ≡ due → (range : Decided) (taken : ℕ) → choice_of ring campaign held due ≡ Offers range taken
+      → IsOffer ring campaign range
   chosen_offer (Some (Batch batch)) due range taken e =
       subst (λ r. IsOffer ring campaign r) (some_range e)
       (single_offer batch (due_agrees (value_at campaign.next campaign.reports) (not (leads_now ring campaign) || nat_lt (suc campaign.next) (reported_to campaign.reports)) (Batch batch) due))

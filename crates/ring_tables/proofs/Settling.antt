@@ -189,7 +189,8 @@ module _ (ring : Ring) (faces : ℕ → Face Value) (a : ℕ) (seat : position_o
         stays : After ring faces a start kept start (nothing_done part)
         stays = record { face = start; grows = Grows-refl start; ties = none }
 
-        kept_on : (campaign : Campaign) → CampaignTies (acceptors ring) (seen faces a start) start campaign → After ring faces a start kept start (nothing_done (with_campaign (with_tick_taken campaign) part))
+        kept_on : (campaign : Campaign) → CampaignTies (acceptors ring) (seen faces a start) start campaign
+            → After ring faces a start kept start (nothing_done (with_campaign (with_tick_taken campaign) part))
         kept_on campaign r = record {
           face = start;
           grows = Grows-refl start;

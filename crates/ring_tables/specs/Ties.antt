@@ -41,7 +41,7 @@ pub record IsChosen (n : ℕ) (now : ℕ → Face Value) (i : ℕ) (value : Valu
 abbrev pub IsRangeChosen : ℕ → (ℕ → Face Value) → Decided → Type 0
 IsRangeChosen n now range = (i : ℕ) → range.lo ≤ i → i < range.hi → IsChosen n now i range.value
 
--- ---- (c) an active coordinator
+-- ---- an active coordinator
 
 -- a member that is covered past an instance, and told this vote there
 pub record IsReported (n : ℕ) (covered : List ℕ) (page : ℕ → ℕ → Promise Value) (i : ℕ) (cast : Cast) : Type 0 where
@@ -84,7 +84,7 @@ abbrev pub RoleTies : ℕ → (ℕ → Face Value) → Face Value → Role → T
 RoleTies n now f Idle = Unit {0}
 RoleTies n now f (Active campaign) = CampaignTies n now f campaign
 
--- ---- (d) a learner
+-- ---- a learner
 
 pub record LearnerTies (n : ℕ) (now : ℕ → Face Value) (learner : Learner) : Type 0 where
   pub ordered : IsIncreasingFrom 0 learner.held
@@ -97,7 +97,7 @@ pub record PartTies (n : ℕ) (now : ℕ → Face Value) (f : Face Value) (part 
   pub role : RoleTies n now f part.coordinator.role
   pub learner : LearnerTies n now part.learner
 
--- ---- (b) what was sent
+-- ---- what was sent
 
 pub record PromiseSaid (f : Face Value) (ballot lo hi trim : ℕ) (votes : List Voted) : Type 0 where
   pub promise : Promise Value
@@ -149,13 +149,13 @@ abbrev pub AreTold : Ring → ℕ → Face Value → Face Value → List Sent �
 AreTold ring a start f frames =
     (p : Promise Value) → Has f.promises p → p.low < p.high → Has start.promises p ⊎ ((owner (acceptors ring) p.ballot ≡ a) ⊎ IsToldIn ring frames p)
 
--- ---- (e) what was printed: a learn line tells what was chosen, and no other line says anything of the ring
+-- ---- what was printed: a learn line tells what was chosen, and no other line says anything of the ring
 
 abbrev pub IsTold : Ring → (ℕ → Face Value) → Line → Type 0
 IsTold ring now (Learn node r lo hi value) = r.0 ≡ ring.id.0 → IsRangeChosen (acceptors ring) now (record { lo = lo; hi = hi; value = value })
 IsTold ring now other = Unit {0}
 
--- ---- (f) what was recorded: a promise is kept, and a vote was cast at each instance of its range
+-- ---- what was recorded: a promise is kept, and a vote was cast at each instance of its range
 
 abbrev pub IsRecorded : RingId → Face Value → Change → Type 0
 IsRecorded id f (change.Promise r ballot) = r.0 ≡ id.0 → ballot ≤ f.promise

@@ -67,7 +67,8 @@ fresh_spelled entry entries each fits =
 -- ---- commands that wait
 
 -- commands that wait stay entries, whether they were proposed or not
-pub proposed_entries : (count : ℕ) (pending : List Pending) → AllByRecursion (λ (p : Pending). IsEntry p.entry) pending → AllByRecursion (λ (p : Pending). IsEntry p.entry) (with_proposed count pending)
+pub proposed_entries : (count : ℕ) (pending : List Pending) → AllByRecursion (λ (p : Pending). IsEntry p.entry) pending
+    → AllByRecursion (λ (p : Pending). IsEntry p.entry) (with_proposed count pending)
 proposed_entries count [] all = tt
 proposed_entries zero (p ∷ pending) all = all
 proposed_entries (suc count) (p ∷ pending) all = go p.proposed (proposed_entries (suc count) pending all.1) (proposed_entries count pending all.1)
@@ -90,7 +91,8 @@ front_all [] rest all = tt
 front_all (x ∷ front) rest all = (all.0, front_all front rest all.1)
 
 -- a fresh batch is spelled
-pub fresh_batch : (campaign : Campaign) → AllByRecursion (λ (p : Pending). IsEntry p.entry) campaign.pending → (entries : List Entry) → fresh_entries campaign.pending ≡ entries → (range : Decided) (taken : ℕ)
+pub fresh_batch : (campaign : Campaign) → AllByRecursion (λ (p : Pending). IsEntry p.entry) campaign.pending → (entries : List Entry) → fresh_entries campaign.pending ≡ entries
+    → (range : Decided) (taken : ℕ)
     → fresh_choice campaign.next entries ≡ Offers range taken → IsSpelled range.value × (range.hi ≡ suc range.lo)
 fresh_batch campaign f [] is range taken e = absurd (cc)
 fresh_batch campaign f (entry ∷ entries) is range taken e =

@@ -15,7 +15,7 @@ use Rattle.vote_journal.specs.Journal.{Journal, recorded}
 use Rattle.checkpoint.specs.Checks.{Checks}
 use Rattle.plain_model.specs.StateBytes.{state_bytes}
 use Rattle.ring_link.specs.Silence.{with_tick}
-use Rattle.beside_rings.specs.Beside.{Untouched}
+use Rattle.beside_rings.specs.Beside.{Untouched, changes_in}
 use Rattle.beside_rings.proofs.Following.{Untouched-refl}
 use Rattle.beside_rings.proofs.Recovered.{untouched_begins}
 use Rattle.protocol.specs.Rings.{is_member, ring_of}
@@ -26,7 +26,7 @@ use Rattle.protocol.specs.Learning.{does}
 use Rattle.protocol.specs.Step.{at_acceptor, takes_from, step}
 use Rattle.protocol.specs.Tick.{saves, is_due_to_save, saves_stage, saves_first, is_due_to_compact, compacts, beats, or_compacts, ticks}
 use Rattle.protocol.specs.Opening.{partition_of, part_of_ring, parts_of, view_of, begins_first, opened}
-use Rattle.step_valid.specs.Valid.{SentValid, IsLearned, MemberValid, ViewValid, AreNumbered, EventValid, changes_in, StepValid}
+use Rattle.step_valid.specs.Valid.{SentValid, IsLearned, MemberValid, ViewValid, AreNumbered, EventValid, StepValid}
 use Rattle.step_valid.proofs.Going.{ActingValid, untouched_valid}
 use Rattle.step_valid.proofs.Dispatch.{from_goes, lead_goes, beats_go}
 

@@ -94,7 +94,8 @@ higher_spelled i v is (Some cast) held = go (nat_lt cast.ballot v.ballot)
     go true = is
     go false = held cast refl
 
-pub reports_spelled : (from : ℕ) (votes : List Voted) (reports : List (ℕ × Cast)) → AllByRecursion IsVoted votes → AllByRecursion Spelled reports → AllByRecursion Spelled (with_reports from votes reports)
+pub reports_spelled : (from : ℕ) (votes : List Voted) (reports : List (ℕ × Cast)) → AllByRecursion IsVoted votes → AllByRecursion Spelled reports
+    → AllByRecursion Spelled (with_reports from votes reports)
 reports_spelled from [] reports all r = r
 reports_spelled from (vote ∷ votes) reports all r =
     reports_spelled from votes (with_met higher (max vote.lo from) vote.hi (cast_of vote) reports) all.1

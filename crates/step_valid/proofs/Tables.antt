@@ -158,7 +158,8 @@ module _ (ring : Ring) (numbered : IsRing ring.id) where
       at (Active campaign) r None = d
       at (Active campaign) r (Some k) = by_test campaign r k (counts page campaign.ballot (slice_index campaign.covered k))
 
-  pub valid_promised : (link : Link) (part : Part) → PartValid part → (from : NodeId) (ballot lo hi trim : ℕ) (votes : List Voted) → IsBallot ballot → IsInst trim → hi ≤ END → AllByRecursion IsVoted votes
+  pub valid_promised : (link : Link) (part : Part) → PartValid part → (from : NodeId) (ballot lo hi trim : ℕ) (votes : List Voted) → IsBallot ballot → IsInst trim → hi ≤ END
+      → AllByRecursion IsVoted votes
       → DidValid (promised ring link part from ballot lo hi trim votes)
   unfolding promised
   valid_promised link part p from ballot lo hi trim votes is inst top all =

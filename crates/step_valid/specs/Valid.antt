@@ -20,7 +20,7 @@ use Rattle.vote_state.specs.Valid.{IsRing, IsBallot, IsInst, IsVoted, IsChange}
 use Rattle.frames.specs.declared.body.Body.{Body}
 use Rattle.frames.specs.declared.body.Body.TheVariants as body
 use Rattle.frames.specs.declared.sent.Sent.{Sent}
-use Rattle.beside_rings.specs.Beside.{IsNoLearn}
+use Rattle.beside_rings.specs.Beside.{IsNoLearn, changes_in}
 use Rattle.protocol.specs.Lines.{Line, Learn}
 use Rattle.protocol.specs.Parts.{Ring, Pending, Campaign, Role, Idle, Active, Round, Part, Did}
 use Rattle.protocol.specs.Rings.{is_member, ring_of}
@@ -134,11 +134,6 @@ AreNumbered config = (table : RingTable) → Has config.rings table → IsRing t
 abbrev pub EventValid : Event → Type 0
 EventValid (Takes frame) = BodyValid frame.body
 EventValid other = Unit {0}
-
--- the changes that a step records
-abbrev pub changes_in : Work → List Change
-changes_in (Records changes) = changes
-changes_in other = []
 
 pub record StepValid (config : Config) (id : NodeId) (did : Stepped) : Type 0 where
   pub same_node : did.view.id ≡ id

@@ -24,7 +24,7 @@ use Rattle.command_codec.specs.Valid.{IsCommand}
 use Rattle.command_codec.proofs.Sizes.{length-u64_bytes, length-string16}
 use Rattle.frames.specs.declared.body.Body.{Body}
 use Rattle.frames.specs.declared.body.Body.TheVariants as body
-use Rattle.protocol.specs.Client.{Asked, ClientView, ClientDid, idles, acceptor_at, acceptors_of, submit_to, sends_it, asked_first, asks_on, asks_beside, asks, ticks_for, client_ticks, fits, with_part, has_part, have_all, gathered, replied_with, replied_by, replied_for, replied, client_takes}
+use Rattle.protocol.specs.Client.{Asked, ClientView, ClientDid, idles, acceptor_at, acceptors_of, submit_to, sends_it, asked_first, asks_on, asks_beside, asks, ticks_for, client_ticks, fits, with_part, has_part, have_all, answers, gathered, replied_with, replied_by, replied_for, replied, client_takes}
 use Rattle.step_valid.specs.Valid.{SentValid}
 use Rattle.valid_runs.specs.Worlds.{AskedValid, ClientValid, LineFits}
 
@@ -101,7 +101,8 @@ module _ (config : Config) where
       at None is = idles_valid c v
       at (Some a) is = go ((a.ticks + 1) % config.resend == 0)
         where
-          go : (b : Bool) → ClientDidValid config (if b then sends_it config c (record a { ticks = a.ticks + 1; tries = a.tries + 1 }) else idles (record c { asked = Some (record a { ticks = a.ticks + 1 }) }))
+          go : (b : Bool)
+              → ClientDidValid config (if b then sends_it config c (record a { ticks = a.ticks + 1; tries = a.tries + 1 }) else idles (record c { asked = Some (record a { ticks = a.ticks + 1 }) }))
           go true = sends_valid c (record a { ticks = a.ticks + 1; tries = a.tries + 1 }) v.numbered (record { asked = is.asked; numbered = is.numbered; short = is.short })
           go false = idles_valid (record c { asked = Some (record a { ticks = a.ticks + 1 }) }) (record { numbered = v.numbered; asked = record { asked = is.asked; numbered = is.numbered; short = is.short } })
 
@@ -109,15 +110,12 @@ module _ (config : Config) where
   unfolding replied
   replied_valid c v seq partition reply = at c.asked v.asked
     where
-      done : (a : Asked) → AskedValid c.id (Some a) → (b : Bool) → b ≡ have_all (concerned_of a.command config.partitions) a.parts → ClientDidValid config (gathered config c a)
-      done a is true e = rw (sym_of e) (record { client = record { numbered = v.numbered; asked = tt }; frames = tt; lines = (tt, tt) })
+      done : (a : Asked) → AskedValid c.id (Some a) → ClientDidValid config (gathered config c a)
+      done a is = go (have_all (concerned_of a.command config.partitions) a.parts)
         where
-          sym_of : {x y : Bool} → x ≡ y → y ≡ x
-          sym_of e = cc
-      done a is false e = rw (sym_of e) (idles_valid (record c { asked = Some a }) (record { numbered = v.numbered; asked = is }))
-        where
-          sym_of : {x y : Bool} → x ≡ y → y ≡ x
-          sym_of e = cc
+          go : (b : Bool) → ClientDidValid config (if b then answers c a else idles (record c { asked = Some a }))
+          go true = record { client = record { numbered = v.numbered; asked = tt }; frames = tt; lines = (tt, tt) }
+          go false = idles_valid (record c { asked = Some a }) (record { numbered = v.numbered; asked = is })
 
       with_reply : (a : Asked) → AskedValid c.id (Some a) → (p : PartitionTable) (r : Result Reply CodecFault) → ClientDidValid config (replied_with config c a p r)
       with_reply a is p (Err fault) = idles_valid c v
@@ -125,9 +123,7 @@ module _ (config : Config) where
         where
           go : (b : Bool) → ClientDidValid config (if b then gathered config c (record a { parts = with_part p.id r a.parts }) else idles c)
           go false = idles_valid c v
-          go true =
-              done (record a { parts = with_part p.id r a.parts }) (record { asked = is.asked; numbered = is.numbered; short = is.short })
-              (have_all (concerned_of a.command config.partitions) (with_part p.id r a.parts)) refl
+          go true = done (record a { parts = with_part p.id r a.parts }) (record { asked = is.asked; numbered = is.numbered; short = is.short })
 
       by : (a : Asked) → AskedValid c.id (Some a) → (o : Option PartitionTable) → ClientDidValid config (replied_by config c a o reply)
       by a is None = idles_valid c v

@@ -12,7 +12,8 @@ use Rattle.protocol.specs.Client.{Asked, ClientView}
 use Rattle.protocol.specs.Lines.{Line, Learn}
 use Rattle.protocol.specs.Node.{Work}
 use Rattle.bare_world.specs.Worlds.{Host, Up, Down, World}
-use Rattle.step_valid.specs.Valid.{SentValid, ViewValid, LearnValid, changes_in}
+use Rattle.step_valid.specs.Valid.{SentValid, ViewValid, LearnValid}
+use Rattle.beside_rings.specs.Beside.{changes_in}
 
 -- a node that is up has a valid view; of one that is down both states may stand in records
 abbrev pub HostValid : Config → Host → Type 0
