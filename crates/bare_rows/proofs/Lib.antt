@@ -1,0 +1,3 @@
+pub mod Happens
+pub mod Deployment
+pub mod Chosen

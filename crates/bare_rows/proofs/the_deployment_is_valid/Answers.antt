@@ -1,0 +1,6 @@
+-- By computation.
+use Rattle.bare_rows.proofs.Deployment.{valid}
+use Rattle.bare_rows.proofs.the_deployment_is_valid.Goals as goal
+
+pub returns : goal.returns
+returns c = valid
