@@ -4,7 +4,7 @@ use Rattle.std.specs.Prelude.{[], ◌∷◌, None, Some}
 use Rattle.mrp_types.specs.declared.id.Party.TheVariants.{Node, Client}
 use Rattle.mrp_types.specs.declared.id.TheConstants.{END}
 use Rattle.command_codec.specs.declared.command.Command.TheVariants as command
-use Rattle.command_codec.specs.Valid.{IsCommand}
+use Rattle.state_laws.proofs.Examples.{bytes_by}
 use Rattle.frames.specs.declared.body.Body.TheVariants as body
 use Rattle.checkpoint.specs.Checks.{Checkpoint}
 use Rattle.checkpoint.specs.Checks.{checkpoint_at}
@@ -19,7 +19,7 @@ use Rattle.plain_model.specs.Replicas.{effect_of, apply}
 use Rattle.plain_model.specs.StateBytes.{state_bytes, kept_reply_at, session_at_least, this_log_at, state_at, whole_state}
 use Rattle.protocol.specs.Acceptor.{prepares, accepts, fetches}
 use Rattle.protocol.specs.Ballots.{covered_to}
-use Rattle.protocol.specs.Client.{asks, client_ticks, replied, client_takes}
+use Rattle.protocol.specs.Client.{MayBeAsked, asks, client_ticks, replied, client_takes}
 use Rattle.protocol.specs.Coordinator.{leads, promised, refused, submits}
 use Rattle.protocol.specs.Leading.{starts_on_tick, resends, levels}
 use Rattle.protocol.specs.Learner.{are_all_held, met_over, gap_after, learns, decided, chosen}
@@ -43,8 +43,13 @@ use Rattle.bare_rows.specs.Row.{node, ring, client, log, address, batch, config,
 no_checkpoint : {C : Type 0} {newest : Checkpoint} → None ≡ Some newest → C
 no_checkpoint e = cc
 
-asked : IsCommand (command.Append log (104 ∷ 105 ∷ []))
-asked = omega arith
+asked : MayBeAsked (command.Append log (104 ∷ 105 ∷ []))
+unfolding u16_bytes
+asked = record {
+  valid = omega arith;
+  numbers = tt;
+  bytes = bytes_by (1 ∷ 0 ∷ 0 ∷ 2 ∷ 104 ∷ 105 ∷ []) (omega arith, (omega arith, (omega arith, (omega arith, (omega arith, (omega arith, tt))))));
+}
 
 pub may_run : MayRun config nothing happenings
 unfolding checkpoint_at u16_bytes command_codec_fields_u32_bytes command_codec_fields_u64_bytes append_at multi_at read_log_at trim_log_at get_at scan_at update_at insert_at delete_at command_of_kind command_at entry_at batch_at position_at positions_at table_entry_at entries_reply_at reply_of_kind command_codec_grammar_reply_at value_at bytes_at number_at within length_at string_that string_at frames_grammar_vote_at votes_at decided_at ranges_at tuple_at part_bytes_at submit_at prepare_at frames_grammar_promise_at refuse_at accept_at decide_at fetch_at chosen_at trimmed_at ask_safe_at safe_at trim_to_at ask_checkpoint_at have_checkpoint_at ask_part_at part_at gone_at frames_grammar_reply_at body_of_kind party_at frame_of_kind kind_at is_concerned entries_below reply_after reply_to replica_of answer_of effect_of apply state_bytes kept_reply_at session_at_least this_log_at state_at whole_state prepares accepts fetches covered_to asks client_ticks replied client_takes leads promised refused submits starts_on_tick resends levels are_all_held met_over gap_after learns decided chosen does merges opened first_where offers proposing proposes_after restores chooses begins answered_by takes_part takes_gone members_of step ticks trimmed least asks_round answers spread_over quiet_after epoch_at vote_journal_grammar_promise_at vote_journal_grammar_vote_at trim_at change_of_kind change_at first_at ranges_of are_held lib.Count.ones

@@ -10,19 +10,22 @@ use Rattle.mrp_types.specs.declared.id.Party.TheVariants.{Node, Client}
 use Rattle.mrp_config.specs.Config.{Config, node_at, client_at}
 use Rattle.mrp_config.specs.declared.tables.NodeTable.{NodeTable}
 use Rattle.mrp_config.specs.declared.tables.ClientTable.{ClientTable}
-use Rattle.command_codec.specs.Valid.{IsCommand}
+use Rattle.command_codec.specs.declared.command.Command.TheVariants.{Append}
+use Rattle.command_codec.specs.Fields.{u16_bytes}
+use Rattle.state_laws.proofs.Examples.{bytes_by}
+use Rattle.protocol.specs.Client.{MayBeAsked}
 use Rattle.frames.specs.declared.sent.Sent.{Sent}
 use Rattle.quorums.specs.Groups.{Has}
 use Rattle.checkpoint.specs.Checks.{Checkpoint}
 use Rattle.bare_world.specs.Worlds.{Host, Up, Down, World, Happening, nothing, happens}
 use Rattle.bare_world.specs.Runs.{MayHappen, MayRun, MayOpenAt}
 use Rattle.line_rows.specs.Moves.{checks_of, Move, Open, Next, Tick, Lead, Ask, Fall, opens_with, opens_host, taken_by, client_of, taken_next, asked_by, happenings_of, moved_on, with_happening, happenings, journal_of}
-use Rattle.line_rows.specs.Row.{config, moves}
+use Rattle.line_rows.specs.Row.{config, moves, log}
 
--- what is asked is a command
+-- what is asked may be asked
 abbrev AreAsked : List Move → Type 0
 AreAsked [] = Unit {0}
-AreAsked (Ask id command ∷ ms) = IsCommand command × AreAsked ms
+AreAsked (Ask id command ∷ ms) = MayBeAsked command × AreAsked ms
 AreAsked (other ∷ ms) = AreAsked ms
 
 get_has : (xs : List Sent) (n : ℕ) (s : Sent) → slice_get xs n ≡ Some s → Has xs s
@@ -61,7 +64,7 @@ module _ (c : Config) (w : World) where
       by_party (Client id) t None f = tt
       by_party (Client id) t (Some table) f = (((table, f), record { frame = sent.frame; sent = record { sent = sent; there = get_has w.frames cursor sent e; by = t; same = refl }; same = refl }), tt)
 
-  asked : (id : ClientId) (command : Command) → IsCommand command → (o : Option ClientTable) → client_at c.clients id.0 ≡ o → AllByRecursion (MayHappen c w) (asked_by id command o)
+  asked : (id : ClientId) (command : Command) → MayBeAsked command → (o : Option ClientTable) → client_at c.clients id.0 ≡ o → AllByRecursion (MayHappen c w) (asked_by id command o)
   asked id command valid None e = tt
   asked id command valid (Some table) e = (((table, e), valid), tt)
 
@@ -91,8 +94,14 @@ all_may c (m ∷ ms) cursor w a =
     go [] may rest = rest (moved_on m (slice_get w.frames cursor) cursor) w
     go (h ∷ hs) may rest = (may.0, rest (moved_on m (slice_get w.frames cursor) cursor) (happens c h w))
 
+-- to append two bytes to log 0 may be asked
+two_bytes : (a b : ℕ) → a < 256 → b < 256 → MayBeAsked (Append (log 0) (a ∷ b ∷ []))
+unfolding u16_bytes
+two_bytes a b low high = record {
+  valid = (omega arith, omega arith);
+  numbers = tt;
+  bytes = bytes_by (1 ∷ 0 ∷ 0 ∷ 2 ∷ a ∷ b ∷ []) (omega arith, (omega arith, (omega arith, (omega arith, (low, (high, tt))))));
+}
+
 pub may_happen : MayRun config nothing (happenings config moves 0 nothing)
-may_happen = all_may config moves 0 nothing (low, (low, (low, tt)))
-  where
-    low : (0 < 64) × (2 ≤ 2048)
-    low = (omega arith, omega arith)
+may_happen = all_may config moves 0 nothing (two_bytes 104 105 (omega arith) (omega arith), (two_bytes 111 107 (omega arith) (omega arith), (two_bytes 98 121 (omega arith) (omega arith), tt)))
