@@ -23,7 +23,7 @@ use Rattle.quorums.specs.Groups.{Has}
 use Rattle.protocol.specs.Lines.{Line, Learn, Begin, Chose, Restore, Trim, Down as WentDown, Up as WentUp}
 use Rattle.protocol.specs.Opening.{partition_of}
 use Rattle.protocol.specs.Node.{View, Service, Stage, Ready, Standing}
-use Rattle.bare_world.specs.Worlds.{Possible, Host, Up, Down, Happening, nothing}
+use Rattle.bare_world.specs.Worlds.{Possible, Host, Up, Down, Happening, nothing, World}
 use Rattle.bare_world.specs.Runs.{run}
 use Rattle.faithful.specs.Scanners.{past, touches, or_else, chosen, choice_told, before_begin, lines_before, told, book, learned_by, entry_of, some_reaches}
 use Rattle.faithful.specs.Rules.{Restores, IsReached, IsFaithfulLine, AreFaithful}
@@ -34,6 +34,11 @@ use Rattle.step_lines.specs.Dids.{Agrees, AllAgree, KeptFor}
 use Rattle.step_lines.proofs.Ending.{kept_for}
 use Rattle.line_runs.specs.Invariant.{node, latest_first, PossibleLines, UpLines, HostLines, WorldLines}
 use Rattle.line_runs.specs.Laws.{HaveOneValue, IsRun, lines_of, host_of, IsPossible, trim_told, NodeSent, KeepsTold, StartsPast}
+use Rattle.ring_runs.specs.Histories.{at_first}
+use Rattle.ring_runs.specs.Lines.{AreFaithful as AreFaithfulLearns}
+use Rattle.ring_runs.proofs.Whole.{world_of}
+use Rattle.ring_runs.proofs.Faithful.{faithful}
+use Rattle.line_runs.proofs.Agreeing.{turn_is_enough}
 use Rattle.line_runs.proofs.Starting.{first_world}
 use Rattle.line_runs.proofs.Runs.{run_kept}
 use Rattle.line_runs.proofs.Fitting.{valid_fits}
@@ -108,8 +113,13 @@ turned lines one m n ring lo hi lo' hi' inst v w h k a b d e = one m n ring lo h
 
 -- ---- every run
 
+pub one_value : (c : Config) (hs : List Happening) → IsRun c hs → HaveOneValue (lines_of c hs)
+one_value c hs r =
+    let f : AreFaithfulLearns c (lines_of c hs) = subst (λ (w : World). AreFaithfulLearns c w.lines) (world_of c at_first hs) (faithful c r.valid hs r.may) in
+    turn_is_enough (lines_of c hs) (λ before after n ring lo hi value e m low high earlier h inst a b d g. (f before after n ring lo hi value e).agrees m low high earlier h inst a b d g)
+
 pub run_lines : (c : Config) (hs : List Happening) → IsRun c hs → WorldLines c (run c hs nothing)
-run_lines c hs r = run_kept c (valid_fits c r.valid) hs nothing (first_world c) r.may (one_agrees (past [] (lines_of c hs)) (turned (lines_of c hs) r.one_value))
+run_lines c hs r = run_kept c (valid_fits c r.valid) hs nothing (first_world c) r.may (one_agrees (past [] (lines_of c hs)) (turned (lines_of c hs) (one_value c hs r)))
 
 faithful_before : (c : Config) (new lines : List Line) → AreFaithful c (past lines new) → AreFaithful c lines
 faithful_before c [] lines f = f

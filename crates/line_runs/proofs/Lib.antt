@@ -3,5 +3,6 @@ pub mod Worlds
 pub mod Clients
 pub mod Runs
 pub mod Fitting
-pub mod Laws
 pub mod Agreeing
+pub mod Laws
+pub mod Holding

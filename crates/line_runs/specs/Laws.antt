@@ -1,11 +1,11 @@
 -- The words in which the laws of every run are said. A run's lines stand in the order in which they were printed; "the lines
 -- before" a line are turned round by `latest_first`, as the definitions of what is read of lines want them.
-use Rattle.std.specs.Prelude.{◌≡◌, ℕ, ◌<◌, ◌≤◌, ◌⊎◌, true, List, Option, Some, None, ◌++◌, ◌∷◌}
+use Rattle.std.specs.Prelude.{◌≡◌, ℕ, ◌<◌, ◌≤◌, ◌⊎◌, true, List, Option, Some, None, ◌++◌, ◌∷◌, length, Bool, count_by}
 use Rattle.mrp_types.specs.declared.id.NodeId.{NodeId}
 use Rattle.mrp_types.specs.declared.id.RingId.{RingId}
 use Rattle.mrp_types.specs.declared.id.Party.TheVariants.{Node}
 use Rattle.mrp_types.specs.declared.value.Value.{Value}
-use Rattle.mrp_config.specs.Config.{Config, has_ring}
+use Rattle.mrp_config.specs.Config.{Config, has_node, has_ring}
 use Rattle.mrp_config.specs.Valid.{IsValid}
 use Rattle.mrp_config.specs.declared.tables.PartitionTable.{PartitionTable}
 use Rattle.frames.specs.declared.body.Body.{Body}
@@ -16,6 +16,7 @@ use Rattle.plain_model.specs.Tuples.{round_sizes, is_tuple_of}
 use Rattle.protocol.specs.Lines.{Line, Learn, Trim}
 use Rattle.protocol.specs.Opening.{partition_of}
 use Rattle.protocol.specs.Recovery.{tuple_of_newest}
+use Rattle.protocol.specs.Rings.{subscribers_of}
 use Rattle.bare_world.specs.Worlds.{Possible, Host, Up, Down, Happening, nothing, possible_of}
 use Rattle.bare_world.specs.Runs.{run, MayRun}
 use Rattle.faithful.specs.Scanners.{before_begin, told, Reaches, entry_of}
@@ -38,7 +39,6 @@ AgreeInTurn lines =
 pub record IsRun (c : Config) (hs : List Happening) : Type 0 where
   pub valid : IsValid c
   pub may : MayRun c nothing hs
-  pub one_value : HaveOneValue (run c hs nothing).lines
 
 abbrev pub lines_of : Config → List Happening → List Line
 lines_of c hs = (run c hs nothing).lines
@@ -80,3 +80,15 @@ pub record StartsPast (c : Config) (before : List Line) (x : NodeId) (printed : 
   pub earlier : List Line
   pub begins : before_begin x.0 before ≡ Some earlier
   pub trims : (m : NodeId) (ring : RingId) (inst : ℕ) → Has earlier (Trim m ring inst) → has_ring partition.rings ring.0 ≡ true → inst ≤ entry_of partition.rings ring printed
+
+-- A trim quorum of a partition's replicas hold an entry of a ring: those that pass a test are at least as many, and each of them
+-- has, in every state that its disk may stand for, a newest checkpoint whose entry reaches it.
+pub record HeldBy (c : Config) (hs : List Happening) (ring : RingId) (inst : ℕ) (p : PartitionTable) : Type 0 where
+  pub test : NodeId → Bool
+  pub enough : p.trim_quorum ≤ count_by test p.replicas
+  pub held : (x : NodeId) → has_node p.replicas x.0 ≡ true → test x ≡ true → (s : Possible) → IsPossible (host_of c hs x.0) s → inst ≤ entry_of p.rings ring (newest_of p s.newest)
+
+-- it is 0, or some partition subscribes and in each that does a trim quorum holds it
+abbrev pub IsHeld : Config → List Happening → RingId → ℕ → Type 0
+IsHeld c hs ring inst =
+    (inst ≡ 0) ⊎ ((0 < length (subscribers_of c.partitions ring)) × ((p : PartitionTable) → Has (subscribers_of c.partitions ring) p → HeldBy c hs ring inst p))

@@ -2,9 +2,9 @@
 //! stays true of each disk, frame and replica, whatever is lost, repeated, reordered or stopped in the middle.
 //!
 //! Definitions and laws alone: each function has an empty body, and its contract is the law. A run is a list of happenings
-//! from the world in which no node has opened yet, as `IsRun` says; of the rings it takes that all learn lines of a ring have
-//! one value at each instance. The lines before a line are `latest_first before`, where `before` are those that were printed
-//! before it, in order.
+//! from the world in which no node has opened yet, as `IsRun` says. Of the rings it takes that their learn lines keep their
+//! rule, F1, in every run (`ring_runs`). The lines before a line are `latest_first before`, where `before` are those that were
+//! printed before it, in order.
 #![tactic(auto)]
 
 ghost use Rattle.std.specs.Prelude.{◌≡◌, ◌≤◌, ℕ, Bool, true, List, ◌∷◌, ◌++◌, Option, Some};
@@ -29,7 +29,7 @@ ghost use Rattle.faithful.specs.Rules.{AllHaveTold, AllKnown, Begins, Chooses, D
 ghost use Rattle.faithful.specs.Scanners.{Reaches, entry_of, some_reaches, told};
 ghost use Rattle.recovery_lines.specs.Ties.{IsAnswer, IsCovered, IsFit, IsSafe, newest_of};
 ghost use Rattle.line_runs.specs.Invariant.{latest_first, node};
-ghost use Rattle.line_runs.specs.Laws.{AgreeInTurn, HaveOneValue, IsPossible, IsRun, KeepsTold, NodeSent, StartsPast, host_of, lines_of, trim_told};
+ghost use Rattle.line_runs.specs.Laws.{HaveOneValue, IsHeld, IsPossible, IsRun, KeepsTold, NodeSent, StartsPast, host_of, lines_of, trim_told};
 
 /// Rule F2. A node delivers only while it is ready, the place that it delivers holds a batch, and from the place where it
 /// stood only skips lie before it: so a replica goes through the one order of its rings without a gap, and never back. A save
@@ -81,12 +81,14 @@ pub fn attempts_are_refused()
 
 /// The safe rule Trim. Each trim that some disk may stand for, and each that a frame tells, is covered, whether its line was
 /// printed or the step was stopped before: it is 0, or a trim quorum of each subscribed partition has told an entry that reaches
-/// it. And what a replica told so is reached by the newest checkpoint of each state that its disk may stand for, for ever.
+/// it. What is covered is held: in each such partition a trim quorum of replicas have, in every state that their disks may stand
+/// for, a checkpoint that reaches it. For what a replica told is reached by its newest checkpoint for ever.
 pub fn trims_are_covered()
     ensures disks { (c : Config) (hs : List Happening) → IsRun c hs → (n : ℕ) (s : Possible) → IsPossible (host_of c hs n) s → (ring : RingId)
         → IsCovered c (latest_first (lines_of c hs)) ring (trim_at s.state ring) }
     ensures frames { (c : Config) (hs : List Happening) → IsRun c hs → (sent : Sent) (from to : NodeId) (body : Body) (ring : RingId) (trim : ℕ) → Has (run c hs nothing).frames sent
         → NodeSent sent from to body → trim_told body ≡ Some (ring, trim) → IsCovered c (latest_first (lines_of c hs)) ring trim }
+    ensures held { (c : Config) (hs : List Happening) → IsRun c hs → (ring : RingId) (inst : ℕ) → IsCovered c (latest_first (lines_of c hs)) ring inst → IsHeld c hs ring inst }
     ensures kept { (c : Config) (hs : List Happening) → IsRun c hs → (n : ℕ) (s : Possible) (p : PartitionTable) (ring : RingId) (inst : ℕ) → IsPossible (host_of c hs n) s
         → partition_of c.partitions (node n) ≡ Some p → some_reaches p.rings ring inst (told n (latest_first (lines_of c hs))) ≡ true → inst ≤ entry_of p.rings ring (newest_of p s.newest) }
 {}
@@ -126,7 +128,7 @@ pub fn valid_deployments_fit()
     ensures { (c : Config) → IsValid c → IsFit c }
 {}
 
-/// What the laws take of the rings is so where each learn line has the value of each earlier one that covers an instance of it.
-pub fn agreement_in_turn_is_enough()
-    ensures { (lines : List Line) → AgreeInTurn lines → HaveOneValue lines }
+/// One value of all learn lines: two learn lines of a ring that cover an instance have the same value, whoever printed them.
+pub fn learn_lines_have_one_value()
+    ensures { (c : Config) (hs : List Happening) → IsRun c hs → HaveOneValue (lines_of c hs) }
 {}

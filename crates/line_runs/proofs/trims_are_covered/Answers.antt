@@ -1,4 +1,5 @@
 use Rattle.line_runs.proofs.Laws.{possible_lines, frame_covered, safe_stays}
+use Rattle.line_runs.proofs.Holding.{covered_held}
 use Rattle.line_runs.proofs.trims_are_covered.Goals as goal
 
 pub returns-clause-disks : goal.returns-clause-disks
@@ -9,3 +10,6 @@ returns-clause-frames c = frame_covered
 
 pub returns-clause-kept : goal.returns-clause-kept
 returns-clause-kept c = safe_stays
+
+pub returns-clause-held : goal.returns-clause-held
+returns-clause-held c = covered_held
