@@ -1,5 +1,5 @@
 -- What stays as the faces of others grow, and as a world gets more frames, lines and histories.
-use Rattle.std.proofs.Common.{◌≡◌, inl, inr, ℕ, ◌≤◌, Bool, true, false, cond, nat_eq, List, [], ◌∷◌, ◌++◌, length, refl, sym, ◌∙◌, ap, subst, arith}
+use Rattle.std.proofs.Common.{◌≡◌, inl, inr, ℕ, ◌≤◌, Bool, true, false, cond, nat_eq, List, [], ◌∷◌, ◌++◌, length, refl, sym, ◌∙◌, ap, subst, arith, ◌⊎◌}
 use Rattle.std.specs.Prelude.{Option}
 use Rattle.std.specs.List.{AllByRecursion}
 use Rattle.std.proofs.lemmas.Bool.Decides.{nat_tests}
@@ -12,7 +12,7 @@ use Rattle.quorums.specs.Groups.{Has}
 use Rattle.vote_state.specs.declared.cast.Cast.{Cast}
 use Rattle.vote_state.specs.declared.ring.RingState.{RingState}
 use Rattle.vote_state.specs.State.{State}
-use Rattle.ring_safety.specs.Faces.{Proposal, Face}
+use Rattle.ring_safety.specs.Faces.{Proposal, Face, Promise, owner}
 use Rattle.ring_safety.specs.Invariant.{Local, Sound}
 use Rattle.ring_safety.specs.Rules.{Grows}
 use Rattle.ring_safety.specs.Worlds.{Before, After, CanHappen, CanRun, durables, happens, empty}
@@ -26,10 +26,10 @@ use Rattle.protocol.specs.Node.{View, Work}
 use Rattle.protocol.specs.Parts.{Ring, Part}
 use Rattle.protocol.specs.Rings.{ring_of}
 use Rattle.ring_steps.specs.Stands.{ViewStands}
-use Rattle.ring_tables.specs.Ties.{PartTies, IsSaid, IsTold}
+use Rattle.ring_tables.specs.Ties.{PartTies, IsSaid, IsTold, IsToldIn}
 use Rattle.ring_tables.proofs.More.{appended, RoleTies-more, LearnerTies-more}
 use Rattle.bare_world.specs.Worlds.{Host, Up, Down, with_frames, with_lines, with_work, with_read}
-use Rattle.ring_runs.specs.Seats.{nobody, seat}
+use Rattle.ring_runs.specs.Seats.{nobody, seat, acceptors}
 use Rattle.ring_runs.specs.Histories.{History}
 use Rattle.ring_runs.specs.Standing.{IsDoneBy, DownStands, HostStands, IsReadIn, ReadStands, WorldStands, Later}
 
@@ -54,7 +54,7 @@ pub host_elsewhere : (config : Config) (table : RingTable) (old new : machine.Wo
 host_elsewhere config table old new more id stopped (Up view) same t =
     subst (λ (x : machine.Node Value). ViewStands (ring_of config id table) (durables new) x.durable view) (sym same)
     (view_more (ring_of config id table) (durables old) (durables new) more (old (seat table id)).durable view t)
-host_elsewhere config table old new more id stopped (Down durable pending) same t = subst (λ (x : machine.Node Value). DownStands table x stopped durable.state pending.state) (sym same) t
+host_elsewhere config table old new more id stopped (Down durable pending) same t = subst (λ (x : machine.Node Value). DownStands table (seat table id) x stopped durable.state pending.state) (sym same) t
 
 pub IsReadIn-more : (f g : Face Value) (kept : RingState) → Grows f g → IsReadIn f kept → IsReadIn g kept
 IsReadIn-more f g kept grows r =
@@ -117,12 +117,24 @@ module _ {X : Type 0} where
   has_first (y ∷ xs) ys x (inl e) = inl e
   has_first (y ∷ xs) ys x (inr h) = inr (has_first xs ys x h)
 
+  pub has_second : (xs ys : List X) (x : X) → Has ys x → Has (xs ++ ys) x
+  has_second [] ys x h = h
+  has_second (y ∷ xs) ys x h = inr (has_second xs ys x h)
+
   pub has_last : (xs : List X) (x : X) → Has (xs ++ x ∷ []) x
   has_last [] x = inl refl
   has_last (y ∷ xs) x = inr (has_last xs x)
 
 pub done_more : (table : RingTable) (old more : List (NodeId × Work)) (id : NodeId) (c : Proposal Value) → IsDoneBy table old id c → IsDoneBy table (old ++ more) id c
 done_more table old more id c b = record { work = b.work; there = has_first old more (id, b.work) b.there; voted = b.voted }
+
+IsToldIn-more : (ring : Ring) (frames all : List Sent) (p : Promise Value) → ((s : Sent) → Has frames s → Has all s) → IsToldIn ring frames p → IsToldIn ring all p
+IsToldIn-more ring frames all p keep s = record { sent = s.sent; there = keep s.sent s.there; by = s.by; votes = s.votes; same = s.same; tells = s.tells }
+
+pub told_more : (ring : Ring) (own : Type 0) (frames all : List Sent) (p : Promise Value) → ((s : Sent) → Has frames s → Has all s) → own ⊎ IsToldIn ring frames p
+    → own ⊎ IsToldIn ring all p
+told_more ring own frames all p keep (inl o) = inl o
+told_more ring own frames all p keep (inr s) = inr (IsToldIn-more ring frames all p keep s)
 
 module _ (config : Config) (table : RingTable) where
   pub more_frames : (late : machine.World Value) (h : History) (frames : List Sent) → AllByRecursion (IsSaid (ring_of config nobody table) (durables late)) frames
@@ -133,6 +145,8 @@ module _ (config : Config) (table : RingTable) where
     lines = v.lines;
     done = v.done;
     cast = v.cast;
+    told = λ id p has lt. told_more (ring_of config id table) (owner (acceptors table) p.ballot ≡ seat table id) h.world.frames (h.world.frames ++ frames) p
+        (λ x there. has_first h.world.frames frames x there) (v.told id p has lt);
     works = v.works;
     read = v.read;
   }
@@ -145,6 +159,7 @@ module _ (config : Config) (table : RingTable) where
     lines = appended (IsTold (ring_of config nobody table) (durables late)) h.world.lines lines v.lines told;
     done = v.done;
     cast = v.cast;
+    told = v.told;
     works = v.works;
     read = v.read;
   }
@@ -157,6 +172,7 @@ module _ (config : Config) (table : RingTable) where
     lines = v.lines;
     done = v.done;
     cast = v.cast;
+    told = v.told;
     works = appended (λ (e : NodeId × Work). Has h.done e) h.world.works ((id, work) ∷ []) v.works (has, tt);
     read = v.read;
   }
@@ -169,6 +185,7 @@ module _ (config : Config) (table : RingTable) where
     lines = v.lines;
     done = v.done;
     cast = v.cast;
+    told = v.told;
     works = v.works;
     read = appended (ReadStands table late) h.world.read ((id, state) ∷ []) v.read (was, tt);
   }

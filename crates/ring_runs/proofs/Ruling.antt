@@ -14,25 +14,25 @@ use Rattle.vote_state.specs.declared.change.Change.TheVariants as change
 use Rattle.vote_state.specs.Ranges.{cast_at}
 use Rattle.vote_state.specs.State.{State, ring_at}
 use Rattle.ring_safety.specs.Deeds as deeds
-use Rattle.ring_safety.specs.Faces.{Face, Promise, Proposal, Vote, rank, owner}
+use Rattle.ring_safety.specs.Faces.{Face, Promise, Vote, rank, owner}
 use Rattle.ring_safety.specs.Invariant.{Local, Sound}
 use Rattle.ring_safety.specs.Rules.{Grows}
 use Rattle.ring_safety.specs.Rules as rules
 use Rattle.ring_safety.specs.Worlds.{IsFaceOf, Chosen, durables}
 use Rattle.ring_safety.specs.Worlds as machine
 use Rattle.ring_safety.proofs.Choosing.{all_for, one_chosen}
-use Rattle.ring_safety.proofs.Rules.{Chosen-more, in_owner, keeps_vote}
+use Rattle.ring_safety.proofs.Rules.{Chosen-more, keeps_vote}
 use Rattle.ring_safety.proofs.Worlds.{either_face}
 use Rattle.ring_reach.specs.Reach.{proposal}
 use Rattle.ring_kept.specs.Kept.{told_of}
 use Rattle.protocol.specs.Lines.{Learn}
 use Rattle.protocol.specs.Node.{Work}
 use Rattle.protocol.specs.Rings.{ring_of}
-use Rattle.ring_tables.specs.Ties.{AcceptSaid, IsRangeChosen, IsRecorded, IsTold, PromiseSaid}
+use Rattle.ring_tables.specs.Ties.{AcceptSaid, IsRangeChosen, IsRecorded, IsTold, PromiseSaid, IsToldIn}
 use Rattle.ring_steps.specs.Stands.{ViewStands, changes_in}
 use Rattle.bare_world.specs.Worlds.{Host}
 use Rattle.ring_runs.specs.Histories.{History}
-use Rattle.ring_runs.specs.Rules.{IsToldUpTo, PromiseRule, IsHeldUpTo, KeepsVote, AreCast, VoteRule, DoneRule, IsFree, IsHighest, Backs, ProposeRule, ChooseRule, OneValueRule, LearnRule}
+use Rattle.ring_runs.specs.Rules.{IsToldUpTo, PromiseRule, IsHeldUpTo, KeepsVote, AreCast, VoteRule, DoneRule, HasPromised, Backs, ProposeRule, ChooseRule, OneValueRule, LearnRule}
 use Rattle.ring_runs.specs.Seats.{acceptors, acceptor_at, nobody, position_or, seat, IsDeployed}
 use Rattle.ring_runs.specs.Standing.{HostStands, ReadStands, Tied, WorkStands, WorldStands}
 use Rattle.ring_runs.specs.Votes.{HasCast, HasSent, HasVoted, IsChosen, IsProposed, MayKeep}
@@ -73,60 +73,53 @@ module _ (config : Config) (table : RingTable) (d : IsDeployed config table) (w 
         (sound.pending k).outdone (back.backing.promise k) (said_there k (back.backing.promise k) (back.backing.made k lt is)) (proposal below i other) cast (omega arith)
         serves.from_low serves.to_high serves.untrimmed
 
-    due : IsFree table h back.backing.members ballot i ⊎ IsHighest table h back.backing.members ballot i value
-    due = go back.backing.due
+    -- a member's promise was sent in a frame, or it is the owner's own
+    promised : (k : ℕ) → k < acceptors table → back.backing.members k ≡ true
+        → HasPromised table h (acceptor_at table k) ballot i ((back.backing.promise k).told i) ⊎ (k ≡ owner (acceptors table) ballot)
+    promised k lt is = go (back.backing.made k lt is)
       where
-        go : deeds.IsDue (acceptors table) back.backing.members (λ k. (back.backing.promise k).told i) value → IsFree table h back.backing.members ballot i ⊎ IsHighest table h back.backing.members ballot i value
-        go (inl free) = inl (λ k lt is below other v less.
-            let told = told_there k lt is below other v less in
-            let none = ap (λ (o : Option (Vote Value)). rank o) (free k lt is) in
-            absurd (omega arith))
-        go (inr top) =
-            let tells : rank ((back.backing.promise top.member).told i) ≡ suc top.vote.ballot = ap (λ (o : Option (Vote Value)). rank o) top.tells in
-            let low : rank ((back.backing.promise top.member).told i) ≤ ballot = back.lower top.member top.below top.is_member in
-            let local : Local (acceptors table) (durables w) top.member (w top.member).pending = sound.pending top.member in
-            let cast : Has (w top.member).pending.casts (proposal top.vote.ballot i top.vote.value) =
-            local.told_cast (back.backing.promise top.member) (said_there top.member (back.backing.promise top.member) (back.backing.made top.member top.below top.is_member)) i top.vote top.tells in
-            inr (record {
-              highest = top.vote.ballot;
-              lower = omega arith;
-              outdone = λ k lt is below other v less.
-                  let told = told_there k lt is below other v less in
-                  let most : rank ((back.backing.promise k).told i) ≤ rank ((back.backing.promise top.member).told i) = top.highest k lt is in
-                  omega arith;
-              same = λ other q. one_top other q (in_owner_of top.member (proposal top.vote.ballot i top.vote.value) cast) ∙ sym top.same;
+        sent : (owner (acceptors table) (back.backing.promise k).ballot ≡ seat table (acceptor_at table k)) ⊎ IsToldIn (ring_of config (acceptor_at table k) table) h.world.frames (back.backing.promise k)
+            → HasPromised table h (acceptor_at table k) ballot i ((back.backing.promise k).told i) ⊎ (k ≡ owner (acceptors table) ballot)
+        sent (inl own) =
+            let same : (back.backing.promise k).ballot ≡ ballot = (back.backing.serves k lt is).of_ballot in
+            inr (sym (seat_at config table d k lt) ∙ sym own ∙ ap (λ (b : ℕ). owner (acceptors table) b) same)
+        sent (inr s) =
+            let serves = back.backing.serves k lt is in
+            let same : (back.backing.promise k).ballot ≡ ballot = serves.of_ballot in
+            let body_is : s.sent.frame.body ≡ body.Promise table.id ballot (back.backing.promise k).low (back.backing.promise k).high (back.backing.promise k).trim s.votes =
+            s.same ∙ ap (λ (b : ℕ). body.Promise table.id b (back.backing.promise k).low (back.backing.promise k).high (back.backing.promise k).trim s.votes) same in
+            inl (record {
+              lo = (back.backing.promise k).low;
+              hi = (back.backing.promise k).high;
+              trim = (back.backing.promise k).trim;
+              votes = s.votes;
+              sent = record { sent = s.sent; there = s.there; by = s.by; same = body_is };
+              low = serves.from_low;
+              high = serves.to_high;
+              untrimmed = serves.untrimmed;
+              reports = s.tells i;
             })
-          where
-            in_owner_of : (k : ℕ) (c : Proposal Value) → Has (w k).pending.casts c → Has (w (owner (acceptors table) c.ballot)).pending.proposals c
-            in_owner_of k c has = in_owner (acceptors table) w sound k (w k).pending (inr refl) c ((sound.pending k).proposed c has)
 
-            one_top : (other : Value) → IsProposed table h top.vote.ballot i other
-                → Has (w (owner (acceptors table) top.vote.ballot)).pending.proposals (proposal top.vote.ballot i top.vote.value) → other ≡ top.vote.value
-            one_top other q has =
-                (sound.pending (owner (acceptors table) top.vote.ballot)).one_value (proposal top.vote.ballot i other) (offered config table d w sound h t top.vote.ballot i other q)
-                (proposal top.vote.ballot i top.vote.value) has refl refl
+        go : deeds.IsPromised (durables w) (owner (acceptors table) ballot) (w (owner (acceptors table) ballot)).pending k (back.backing.promise k)
+            → HasPromised table h (acceptor_at table k) ballot i ((back.backing.promise k).told i) ⊎ (k ≡ owner (acceptors table) ballot)
+        go (inl has) =
+            let serves = back.backing.serves k lt is in
+            let low : (back.backing.promise k).low ≤ i = serves.from_low in
+            let high : i < (back.backing.promise k).high = serves.to_high in
+            sent (t.told (acceptor_at table k) (back.backing.promise k)
+            (subst (λ (x : ℕ). Has (durables w x).promises (back.backing.promise k)) (sym (seat_at config table d k lt)) has) (omega arith))
+        go (inr own) = inr own.0
 
     backs : Backs table h ballot i value
     backs = record {
       members = back.backing.members;
       majority = back.backing.majority;
-      promised = λ k lt is ne state keeps.
-          let q : Promise Value = back.backing.promise k in
-          let same : (back.backing.promise k).ballot ≡ ballot = (back.backing.serves k lt is).of_ballot in
-          let s : Shown table w (acceptor_at table k) state = shown config table d w sound h t (acceptor_at table k) state keeps in
-          let made : Has (durables w (seat table (acceptor_at table k))).promises (back.backing.promise k) =
-          subst (λ (x : ℕ). Has (durables w x).promises (back.backing.promise k)) (sym (seat_at config table d k lt)) (elsewhere k (back.backing.promise k) ne (back.backing.made k lt is)) in
-          let local : Local (acceptors table) (durables w) (seat table (acceptor_at table k)) s.face = either_face (acceptors table) w sound (seat table (acceptor_at table k)) s.face s.is in
-          let low : (back.backing.promise k).ballot ≤ s.face.promise = local.promised (back.backing.promise k) (local.grown.promises (back.backing.promise k) made) in
-          let face : s.face.promise ≡ (ring_at state table.id).promise = s.ties.promise in
-          omega arith;
-      due = due;
+      report = λ k. (back.backing.promise k).told i;
+      promised = promised;
+      lower = back.lower;
+      outdone = told_there;
+      due = back.backing.due;
     }
-      where
-        elsewhere : (k : ℕ) (q : Promise Value) → (k ≡ owner (acceptors table) ballot → ⊥)
-            → deeds.IsPromised (durables w) (owner (acceptors table) ballot) (w (owner (acceptors table) ballot)).pending k q → Has (durables w k).promises q
-        elsewhere k q ne (inl has) = has
-        elsewhere k q ne (inr own) = absurd (ne own.0)
 
   pub propose_rule : ProposeRule table h
   propose_rule = record {

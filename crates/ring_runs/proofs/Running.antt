@@ -1,5 +1,5 @@
 -- Every world without bytes that a run reaches stands for a sound world of the ring's machine.
-use Rattle.std.proofs.Common.{◌≡◌, ◌⊎◌, inl, inr, ℕ, ◌<◌, Bool, true, false, List, [], ◌∷◌, ◌++◌, length, refl, sym, subst, arith}
+use Rattle.std.proofs.Common.{◌∙◌, ◌≡◌, ◌⊎◌, inl, inr, ℕ, ◌<◌, Bool, true, false, List, [], ◌∷◌, ◌++◌, length, refl, sym, subst, arith, ap}
 use Rattle.std.specs.Prelude.{◌==◌, if◌then◌else◌, slice_index_or}
 use Rattle.std.specs.List.{AllByRecursion}
 use Rattle.std.proofs.lemmas.Bool.Decides.{nat_tests}
@@ -7,15 +7,20 @@ use Rattle.std.proofs.lemmas.List.{get_or-replicate}
 use Rattle.mrp_types.specs.declared.id.NodeId.{NodeId}
 use Rattle.mrp_types.specs.declared.id.ClientId.{ClientId}
 use Rattle.mrp_types.specs.declared.value.Value.{Value}
+use Rattle.ring_reach.specs.Silent.{Silently, with_promises}
+use Rattle.mrp_types.specs.declared.id.RingId.{RingId}
+use Rattle.vote_state.specs.declared.change.Change.{Change}
 use Rattle.mrp_config.specs.Config.{Config}
 use Rattle.mrp_config.specs.declared.tables.RingTable.{RingTable}
 use Rattle.frames.specs.declared.frame.Frame.{Frame}
+use Rattle.frames.specs.declared.sent.Sent.{Sent}
 use Rattle.quorums.specs.Groups.{Has}
 use Rattle.vote_state.specs.declared.ring.RingState.{RingState}
+use Rattle.vote_state.specs.declared.change.Change.TheVariants as change
 use Rattle.vote_state.specs.State.{State, ring_at, no_votes, nothing_kept}
 use Rattle.vote_journal.specs.Journal.{Journal}
 use Rattle.checkpoint.specs.Checks.{Checks}
-use Rattle.ring_safety.specs.Faces.{Proposal, Face, blank}
+use Rattle.ring_safety.specs.Faces.{Proposal, Face, blank, Promise, owner}
 use Rattle.ring_safety.specs.Invariant.{Sound}
 use Rattle.ring_safety.specs.Rules.{Grows}
 use Rattle.ring_safety.specs.Worlds.{Before, After, CanHappen, CanRun, durables, happens, empty}
@@ -25,6 +30,7 @@ use Rattle.ring_safety.proofs.Worlds.{Sound-empty, Sound-happens, happens_more}
 use Rattle.ring_reach.specs.Lifts.{HasStepped, WasStopped}
 use Rattle.ring_reach.specs.Reach.{seen}
 use Rattle.ring_reach.proofs.Lifting.{node_there, node_elsewhere, has_stepped, was_stopped}
+use Rattle.ring_reach.proofs.Silence.{silently}
 use Rattle.ring_kept.specs.Kept.{KeptTies}
 use Rattle.protocol.specs.Client.{ClientDid, asks, client_ticks, client_takes}
 use Rattle.protocol.specs.Lines.{Line, Cause}
@@ -34,7 +40,7 @@ use Rattle.protocol.specs.Opening.{opened}
 use Rattle.protocol.specs.Rings.{ring_of}
 use Rattle.protocol.specs.Step.{step}
 use Rattle.ring_steps.specs.Stands.{changes_in, ViewStands, EventSaid, StepStands}
-use Rattle.ring_tables.specs.Ties.{SaidBy, IsSaid, IsTold, IsRecorded, IsVotedIn, AreRecorded}
+use Rattle.ring_tables.specs.Ties.{SaidBy, IsSaid, IsTold, IsRecorded, IsVotedIn, AreRecorded, IsToldIn}
 use Rattle.ring_steps.proofs.Ending.{step_stands}
 use Rattle.ring_tables.proofs.More.{appended, mapped, all_said_more, all_told_more, all_recorded_more, none_recorded}
 use Rattle.ring_steps.proofs.Opened.{opened_stands}
@@ -45,7 +51,7 @@ use Rattle.ring_runs.specs.Seats.{acceptors, nobody, seat, IsDeployed}
 use Rattle.ring_runs.specs.Histories.{History, at_first, is_done, is_stopped, by_step, by_break, by_crash, found, by_restart, by_opening, goes, history}
 use Rattle.ring_runs.specs.Standing.{IsDoneBy, DownStands, HostStands, WorkStands, IsReadIn, ReadStands, WorldStands, Later, Tied}
 use Rattle.ring_runs.proofs.Clients.{IsQuiet, asks_quiet, ticks_quiet, takes_quiet}
-use Rattle.ring_runs.proofs.Growing.{view_more, host_elsewhere, own_view, IsReadIn-more, read_in, later_none, later_one, later_both, later_grows, more_frames, more_lines, more_work, more_read, one_of, has_first, has_last, done_more}
+use Rattle.ring_runs.proofs.Growing.{view_more, host_elsewhere, own_view, IsReadIn-more, read_in, later_none, later_one, later_both, later_grows, more_frames, more_lines, more_work, more_read, one_of, has_first, has_last, done_more, told_more, has_second}
 use Rattle.ring_runs.proofs.Static.{same_id, seats_of, seats_differ, said_by, all_said, all_told}
 
 pub since : (config : Config) (table : RingTable) (from mid : machine.World Value) (h : History) → Later (acceptors table) from mid → Tied config table mid h → Tied config table from h
@@ -56,6 +62,18 @@ stopped_there id work f = let e : (id.0 == id.0) ≡ true = grind (arith, nat_te
 
 stopped_elsewhere : (id other : NodeId) (work : Work) (f : ℕ → Work) → (other.0 ≡ id.0 → ⊥) → (if other.0 == id.0 then work else f other.0) ≡ f other.0
 stopped_elsewhere id other work f ne = let e : (other.0 == id.0) ≡ false = grind (arith, nat_tests) in rw e refl
+
+-- what was recorded stands whatever promises a face has told
+still_recorded : (id : RingId) (f : Face Value) (promises : List (Promise Value)) (c : Change) → IsRecorded id f c → IsRecorded id (with_promises promises f) c
+still_recorded id f promises (change.Promise r ballot) s = s
+still_recorded id f promises (change.Vote r vote) s = s
+still_recorded id f promises other s = tt
+
+same_node : (node : machine.Node Value) (durable pending : Face Value) → node.durable ≡ durable → node.pending ≡ pending
+    → (let made : machine.Node Value = record { durable = durable; pending = pending } in made) ≡ node
+same_node node durable pending e p =
+    sym (ap (λ (f : Face Value). let made : machine.Node Value = record { durable = f; pending = node.pending } in made) e
+    ∙ ap (λ (f : Face Value). let made : machine.Node Value = record { durable = durable; pending = f } in made) p)
 
 module _ (config : Config) (table : RingTable) (d : IsDeployed config table) (w : machine.World Value) (sound : Sound (acceptors table) w) (h : History) (t : WorldStands config table w h) where
   -- what comes to a node was said
@@ -75,7 +93,10 @@ module _ (config : Config) (table : RingTable) (d : IsDeployed config table) (w 
   module _ (id : NodeId) (late : machine.World Value) (others : (k : ℕ) → (k ≡ seat table id → ⊥) → late k ≡ w k) (more : (k : ℕ) → Grows (durables w k) (durables late k))
       (host : Host) (stopped : ℕ → Work) (same : (other : NodeId) → (other.0 ≡ id.0 → ⊥) → stopped other.0 ≡ h.stopped other.0) (own : HostStands config table late id (stopped id.0) host)
       (done : List (NodeId × Work)) (grown : (e : NodeId × Work) → Has h.done e → Has done e) (fine : AllByRecursion (WorkStands table late) done)
-      (cast : (c : Proposal Value) → Has (durables late (seat table id)).casts c → IsDoneBy table done id c) where
+      (cast : (c : Proposal Value) → Has (durables late (seat table id)).casts c → IsDoneBy table done id c)
+      (frames : List Sent) (kept : (x : Sent) → Has h.world.frames x → Has frames x) (said : AllByRecursion (IsSaid (ring_of config nobody table) (durables late)) frames)
+      (told : (p : Promise Value) → Has (durables late (seat table id)).promises p → p.low < p.high
+      → (owner (acceptors table) p.ballot ≡ seat table id) ⊎ IsToldIn (ring_of config id table) frames p) where
     hosts_after : (other : NodeId) → HostStands config table late other (stopped other.0) (if other.0 == id.0 then host else h.world.hosts other.0)
     hosts_after other = go (other.0 == id.0) refl
       where
@@ -101,13 +122,28 @@ module _ (config : Config) (table : RingTable) (d : IsDeployed config table) (w 
             t.cast other c (subst (λ (x : machine.Node Value). Has x.durable.casts c) (others (seat table other) (seats_differ config table d other id ne)) has) in
             record { work = was.work; there = grown (other, was.work) was.there; voted = was.voted }
 
-    world_after : WorldStands config table late (record { world = with_host id host h.world; stopped = stopped; done = done })
+    told_after : (other : NodeId) (p : Promise Value) → Has (durables late (seat table other)).promises p → p.low < p.high
+        → (owner (acceptors table) p.ballot ≡ seat table other) ⊎ IsToldIn (ring_of config other table) frames p
+    told_after other p has lt = go (other.0 == id.0) refl
+      where
+        go : (b : Bool) → (other.0 == id.0) ≡ b → (owner (acceptors table) p.ballot ≡ seat table other) ⊎ IsToldIn (ring_of config other table) frames p
+        go true e =
+            let it : other ≡ id = same_id other id (grind (arith, nat_tests)) in
+            subst (λ (x : NodeId). (owner (acceptors table) p.ballot ≡ seat table x) ⊎ IsToldIn (ring_of config x table) frames p) (sym it)
+            (told p (subst (λ (x : NodeId). Has (durables late (seat table x)).promises p) it has) lt)
+        go false e =
+            let ne : (other.0 ≡ id.0 → ⊥) = grind (arith, nat_tests) in
+            told_more (ring_of config other table) (owner (acceptors table) p.ballot ≡ seat table other) h.world.frames frames p kept
+            (t.told other p (subst (λ (x : machine.Node Value). Has x.durable.promises p) (others (seat table other) (seats_differ config table d other id ne)) has) lt)
+
+    world_after : WorldStands config table late (record { world = record (with_host id host h.world) { frames = frames }; stopped = stopped; done = done })
     world_after = record {
       hosts = hosts_after;
-      frames = all_said_more (ring_of config nobody table) (durables w) (durables late) more h.world.frames t.frames;
+      frames = said;
       lines = all_told_more (ring_of config nobody table) (durables w) (durables late) more h.world.lines t.lines;
       done = fine;
       cast = casts_after;
+      told = told_after;
       works = mapped (λ (e : NodeId × Work). Has h.done e) (λ (e : NodeId × Work). Has done e) grown h.world.works t.works;
       read = mapped (ReadStands table w) (ReadStands table late)
           (λ e r. IsReadIn-more (durables w (seat table e.0)) (durables late (seat table e.0)) (ring_at e.1 table.id) (more (seat table e.0)) r) h.world.read t.read;
@@ -131,6 +167,17 @@ module _ (config : Config) (table : RingTable) (d : IsDeployed config table) (w 
         go (inl old) = done_more table h.done ((id, did.work) ∷ []) id c (t.cast id c old)
         go (inr v) = record { work = did.work; there = has_last h.done (id, did.work); voted = v }
 
+    told_then : (p : Promise Value) → Has (durables (happens event.event w) (seat table id)).promises p → p.low < p.high
+        → (owner (acceptors table) p.ballot ≡ seat table id) ⊎ IsToldIn (ring_of config id table) (h.world.frames ++ did.frames) p
+    told_then p has lt = go (s.told p (subst (λ (f : Face Value). Has f.promises p) event.durable has) lt)
+      where
+        go : Has (w (seat table id)).durable.promises p ⊎ ((owner (acceptors table) p.ballot ≡ seat table id) ⊎ IsToldIn (ring_of config id table) did.frames p)
+            → (owner (acceptors table) p.ballot ≡ seat table id) ⊎ IsToldIn (ring_of config id table) (h.world.frames ++ did.frames) p
+        go (inl old) = told_more (ring_of config id table) (owner (acceptors table) p.ballot ≡ seat table id) h.world.frames (h.world.frames ++ did.frames) p
+            (λ x there. has_first h.world.frames did.frames x there) (t.told id p old lt)
+        go (inr new) = told_more (ring_of config id table) (owner (acceptors table) p.ballot ≡ seat table id) did.frames (h.world.frames ++ did.frames) p
+            (λ x there. has_second h.world.frames did.frames x there) new
+
     went : WorldStands config table (happens event.event w) (record { world = goes_on id before did h.world; stopped = h.stopped; done = h.done ++ (id, did.work) ∷ [] })
     went =
         let own : ViewStands (ring_of config id table) (durables (happens event.event w)) (happens event.event w (seat table id)).durable did.view =
@@ -141,14 +188,16 @@ module _ (config : Config) (table : RingTable) (d : IsDeployed config table) (w 
         (all_told config table d id nobody (durables (happens event.event w)) (before ++ did.lines)
         (appended (IsTold (ring_of config id table) (durables (happens event.event w))) before did.lines (quiet (durables (happens event.event w)))
         (all_told_more (ring_of config id table) (seen (durables w) (seat table id) s.face) (durables (happens event.event w)) event.seen_there did.lines s.lines)))
-        (more_frames config table (happens event.event w) (record { world = with_host id (Up did.view) h.world; stopped = h.stopped; done = h.done ++ (id, did.work) ∷ [] }) did.frames
-        (all_said config table d id nobody (durables (happens event.event w)) did.frames
-        (all_said_more (ring_of config id table) (seen (durables w) (seat table id) s.face) (durables (happens event.event w)) event.seen_there did.frames s.frames))
         (world_after id (happens event.event w) event.others event.more (Up did.view) h.stopped (λ other ne. refl) own (h.done ++ (id, did.work) ∷ [])
         (λ e has. has_first h.done ((id, did.work) ∷ []) e has)
         (appended (WorkStands table (happens event.event w)) h.done ((id, did.work) ∷ []) (done_still (happens event.event w) event.more)
         (subst (λ (f : Face Value). AllByRecursion (IsRecorded table.id f) (changes_in did.work)) (sym event.durable) s.recorded.stand, tt))
-        cast_then))
+        cast_then (h.world.frames ++ did.frames) (λ x there. has_first h.world.frames did.frames x there)
+        (appended (IsSaid (ring_of config nobody table) (durables (happens event.event w))) h.world.frames did.frames
+        (all_said_more (ring_of config nobody table) (durables w) (durables (happens event.event w)) event.more h.world.frames t.frames)
+        (all_said config table d id nobody (durables (happens event.event w)) did.frames
+        (all_said_more (ring_of config id table) (seen (durables w) (seat table id) s.face) (durables (happens event.event w)) event.seen_there did.frames s.frames)))
+        told_then)
 
     pub goes_well : Tied config table w (record { world = goes_on id before did h.world; stopped = h.stopped; done = h.done ++ (id, did.work) ∷ [] })
     goes_well = record {
@@ -171,13 +220,15 @@ module _ (config : Config) (table : RingTable) (d : IsDeployed config table) (w 
 
   -- its machine's node is another, whose durable face has cast nothing new
   module _ (id : NodeId) (late : machine.World Value) (others : (k : ℕ) → (k ≡ seat table id → ⊥) → late k ≡ w k) (more : (k : ℕ) → Grows (durables w k) (durables late k))
-      (durable pending : Possible) (work : Work) (own : DownStands table (late (seat table id)) work durable.state pending.state)
-      (none : (c : Proposal Value) → Has (durables late (seat table id)).casts c → Has (durables w (seat table id)).casts c) where
+      (durable pending : Possible) (work : Work) (own : DownStands table (seat table id) (late (seat table id)) work durable.state pending.state)
+      (none : (c : Proposal Value) → Has (durables late (seat table id)).casts c → Has (durables w (seat table id)).casts c)
+      (untold : (p : Promise Value) → Has (durables late (seat table id)).promises p → Has (durables w (seat table id)).promises p) where
     down_after : WorldStands config table late (is_stopped id work (record h { world = with_host id (Down durable pending) h.world }))
     down_after =
         world_after id late others more (Down durable pending) (λ k. if k == id.0 then work else h.stopped k) (λ other ne. stopped_elsewhere id other work h.stopped ne)
-        (subst (λ (x : Work). DownStands table (late (seat table id)) x durable.state pending.state) (sym (stopped_there id work h.stopped)) own)
-        h.done (λ e has. has) (done_still late more) (λ c has. t.cast id c (none c has))
+        (subst (λ (x : Work). DownStands table (seat table id) (late (seat table id)) x durable.state pending.state) (sym (stopped_there id work h.stopped)) own)
+        h.done (λ e has. has) (done_still late more) (λ c has. t.cast id c (none c has)) h.world.frames (λ x there. there)
+        (all_said_more (ring_of config nobody table) (durables w) (durables late) more h.world.frames t.frames) (λ p has lt. t.told id p (untold p has) lt)
 
     says_down : (cause : Cause) → WorldStands config table late (is_stopped id work (record h { world = goes_down id cause durable pending h.world }))
     says_down cause =
@@ -188,23 +239,29 @@ module _ (config : Config) (table : RingTable) (d : IsDeployed config table) (w 
       → StepStands (ring_of config id table) (durables w) (seat table id) (w (seat table id)).durable did → (cause : Cause)
       → Tied config table w (is_stopped id did.work (record h { world = goes_down id cause (possible_of view) (possible_of did.view) h.world }))
   breaks id view v did s cause =
-      let e : WasStopped (acceptors table) w (seat table id) s.face = was_stopped (acceptors table) w sound (seat table id) s.face s.reached in
-      let same : (happens e.event w (seat table id)).durable ≡ (w (seat table id)).durable = e.durable (seat table id) in
-      let made : AreRecorded table.id (happens e.event w (seat table id)).durable s.face (changes_in did.work) =
-      subst (λ (f : Face Value). AreRecorded table.id f s.face (changes_in did.work)) (sym (e.durable (seat table id))) s.recorded in
+      let q : Silently (acceptors table) (durables w) (seat table id) (w (seat table id)).durable s.face =
+      silently (acceptors table) (durables w) (seat table id) sound.durable (w (seat table id)).durable (sound.durable (seat table id)) s.face s.reached in
+      let g : Face Value = with_promises q.promises s.face in
+      let e : WasStopped (acceptors table) w (seat table id) (with_promises q.promises s.face) =
+      was_stopped (acceptors table) w sound (seat table id) (with_promises q.promises s.face) q.reached in
+      let made : AreRecorded table.id (w (seat table id)).durable (with_promises q.promises s.face) (changes_in did.work) = record {
+        stand = mapped (IsRecorded table.id s.face) (IsRecorded table.id (with_promises q.promises s.face)) (still_recorded table.id s.face q.promises) (changes_in did.work) s.recorded.stand;
+        voted = s.recorded.voted;
+      } in
+      let k : KeptTies s.face (ring_at did.view.journal.state table.id) = s.stands.kept in
+      let ties : KeptTies (with_promises q.promises s.face) (ring_at did.view.journal.state table.id) =
+      record { promise = k.promise; trim = k.trim; votes = k.votes; ordered = k.ordered; ended = k.ended } in
+      let stood : DownStands table (seat table id) (record { durable = (w (seat table id)).durable; pending = with_promises q.promises s.face }) did.work view.journal.state did.view.journal.state =
+      record { durable_rings = v.rings; pending_rings = s.stands.rings; durable_ties = v.kept; pending_ties = ties; made = made; silent = q.new } in
       record {
         machine_world = happens e.event w;
         later = later_one (acceptors table) w e.event e.can;
         sound = Sound-happens (acceptors table) w sound e.event e.can;
         stands = says_down id (happens e.event w) e.others (λ k. Grows-of_eq (sym (e.durable k))) (possible_of view) (possible_of did.view) did.work
-            (record {
-              durable_rings = v.rings;
-              pending_rings = s.stands.rings;
-              durable_ties = subst (λ (f : Face Value). KeptTies f (ring_at view.journal.state table.id)) (sym (e.durable (seat table id))) v.kept;
-              pending_ties = subst (λ (f : Face Value). KeptTies f (ring_at did.view.journal.state table.id)) (sym e.pending) s.stands.kept;
-              made = subst (λ (f : Face Value). AreRecorded table.id (happens e.event w (seat table id)).durable f (changes_in did.work)) (sym e.pending) made;
-            })
-            (λ c has. subst (λ (f : Face Value). Has f.casts c) (e.durable (seat table id)) has) cause;
+            (subst (λ (x : machine.Node Value). DownStands table (seat table id) x did.work view.journal.state did.view.journal.state)
+            (same_node (happens e.event w (seat table id)) (w (seat table id)).durable (with_promises q.promises s.face) (e.durable (seat table id)) e.pending) stood)
+            (λ c has. subst (λ (f : Face Value). Has f.casts c) (e.durable (seat table id)) has)
+            (λ p has. subst (λ (f : Face Value). Has f.promises p) (e.durable (seat table id)) has) cause;
       }
 
   abbrev before_node : NodeId → machine.Node Value
@@ -212,13 +269,16 @@ module _ (config : Config) (table : RingTable) (d : IsDeployed config table) (w 
 
   -- a node on the state before, of which its durable face is known
   before_down : (id : NodeId) (durable : State) → table.id.0 < length durable.rings → KeptTies (w (seat table id)).durable (ring_at durable table.id)
-      → DownStands table (happens (Before (seat table id)) w (seat table id)) Nothing durable durable
+      → DownStands table (seat table id) (happens (Before (seat table id)) w (seat table id)) Nothing durable durable
   before_down id durable rings ties =
-      subst (λ (x : machine.Node Value). DownStands table x Nothing durable durable) (sym (node_there w (seat table id) (before_node id)))
-      (record { durable_rings = rings; pending_rings = rings; durable_ties = ties; pending_ties = ties; made = none_recorded table.id (w (seat table id)).durable })
+      subst (λ (x : machine.Node Value). DownStands table (seat table id) x Nothing durable durable) (sym (node_there w (seat table id) (before_node id)))
+      (record { durable_rings = rings; pending_rings = rings; durable_ties = ties; pending_ties = ties; made = none_recorded table.id (w (seat table id)).durable; silent = λ p has lt. inl has })
 
   before_casts : (id : NodeId) (c : Proposal Value) → Has (durables (happens (Before (seat table id)) w) (seat table id)).casts c → Has (durables w (seat table id)).casts c
   before_casts id c has = subst (λ (x : machine.Node Value). Has x.durable.casts c) (node_there w (seat table id) (before_node id)) has
+
+  before_promises : (id : NodeId) (p : Promise Value) → Has (durables (happens (Before (seat table id)) w) (seat table id)).promises p → Has (durables w (seat table id)).promises p
+  before_promises id p has = subst (λ (x : machine.Node Value). Has x.durable.promises p) (node_there w (seat table id) (before_node id)) has
 
   -- a node that goes down between steps
   pub crashes : (id : NodeId) (view : View) → ViewStands (ring_of config id table) (durables w) (w (seat table id)).durable view → (cause : Cause)
@@ -228,27 +288,27 @@ module _ (config : Config) (table : RingTable) (d : IsDeployed config table) (w 
     later = later_one (acceptors table) w (Before (seat table id)) tt;
     sound = Sound-happens (acceptors table) w sound (Before (seat table id)) tt;
     stands = says_down id (happens (Before (seat table id)) w) (node_elsewhere w (seat table id) (before_node id)) (happens_more (acceptors table) w sound (Before (seat table id)) tt)
-        (possible_of view) (possible_of view) Nothing (before_down id view.journal.state v.rings v.kept) (before_casts id) cause;
+        (possible_of view) (possible_of view) Nothing (before_down id view.journal.state v.rings v.kept) (before_casts id) (before_promises id) cause;
   }
 
   -- ---- a restart chooses one of the two states
 
-  pub restarts : (id : NodeId) (after : Bool) (durable pending : Possible) → DownStands table (w (seat table id)) (h.stopped id.0) durable.state pending.state
+  pub restarts : (id : NodeId) (after : Bool) (durable pending : Possible) → DownStands table (seat table id) (w (seat table id)) (h.stopped id.0) durable.state pending.state
       → Tied config table w (record (found id after h) { world = with_host id (Down (chosen after durable pending) (chosen after durable pending)) h.world })
   restarts id false durable pending s = record {
     machine_world = happens (Before (seat table id)) w;
     later = later_one (acceptors table) w (Before (seat table id)) tt;
     sound = Sound-happens (acceptors table) w sound (Before (seat table id)) tt;
     stands = down_after id (happens (Before (seat table id)) w) (node_elsewhere w (seat table id) (before_node id)) (happens_more (acceptors table) w sound (Before (seat table id)) tt)
-        durable durable Nothing (before_down id durable.state s.durable_rings s.durable_ties) (before_casts id);
+        durable durable Nothing (before_down id durable.state s.durable_rings s.durable_ties) (before_casts id) (before_promises id);
   }
   restarts id true durable pending s =
       let node : machine.Node Value = record { durable = (w (seat table id)).pending; pending = (w (seat table id)).pending } in
       let late : machine.World Value = happens (After (seat table id)) w in
-      let own : DownStands table (happens (After (seat table id)) w (seat table id)) Nothing pending.state pending.state =
-      subst (λ (x : machine.Node Value). DownStands table x Nothing pending.state pending.state)
+      let own : DownStands table (seat table id) (happens (After (seat table id)) w (seat table id)) Nothing pending.state pending.state =
+      subst (λ (x : machine.Node Value). DownStands table (seat table id) x Nothing pending.state pending.state)
       (sym (node_there w (seat table id) (record { durable = (w (seat table id)).pending; pending = (w (seat table id)).pending })))
-      (record { durable_rings = s.pending_rings; pending_rings = s.pending_rings; durable_ties = s.pending_ties; pending_ties = s.pending_ties; made = none_recorded table.id (w (seat table id)).pending }) in
+      (record { durable_rings = s.pending_rings; pending_rings = s.pending_rings; durable_ties = s.pending_ties; pending_ties = s.pending_ties; made = none_recorded table.id (w (seat table id)).pending; silent = λ p has lt. inl has }) in
       record {
         machine_world = happens (After (seat table id)) w;
         later = later_one (acceptors table) w (After (seat table id)) tt;
@@ -257,7 +317,7 @@ module _ (config : Config) (table : RingTable) (d : IsDeployed config table) (w 
             (node_elsewhere w (seat table id) (record { durable = (w (seat table id)).pending; pending = (w (seat table id)).pending }))
             (happens_more (acceptors table) w sound (After (seat table id)) tt) (Down pending pending)
             (λ k. if k == id.0 then Nothing else h.stopped k) (λ other ne. stopped_elsewhere id other Nothing h.stopped ne)
-            (subst (λ (x : Work). DownStands table (happens (After (seat table id)) w (seat table id)) x pending.state pending.state) (sym (stopped_there id Nothing h.stopped)) own)
+            (subst (λ (x : Work). DownStands table (seat table id) (happens (After (seat table id)) w (seat table id)) x pending.state pending.state) (sym (stopped_there id Nothing h.stopped)) own)
             (h.done ++ (id, h.stopped id.0) ∷ []) (λ e has. has_first h.done ((id, h.stopped id.0) ∷ []) e has)
             (appended (WorkStands table (happens (After (seat table id)) w)) h.done ((id, h.stopped id.0) ∷ [])
             (done_still (happens (After (seat table id)) w) (happens_more (acceptors table) w sound (After (seat table id)) tt)) (
@@ -265,12 +325,24 @@ module _ (config : Config) (table : RingTable) (d : IsDeployed config table) (w 
                   (sym (node_there w (seat table id) (record { durable = (w (seat table id)).pending; pending = (w (seat table id)).pending }))) s.made.stand,
               tt,
             ))
-            casts;
+            casts h.world.frames (λ x there. there)
+            (all_said_more (ring_of config nobody table) (durables w) (durables (happens (After (seat table id)) w)) (happens_more (acceptors table) w sound (After (seat table id)) tt) h.world.frames t.frames)
+            told;
       }
     where
       go : (c : Proposal Value) → Has (w (seat table id)).durable.casts c ⊎ IsVotedIn table.id (changes_in (h.stopped id.0)) c → IsDoneBy table (h.done ++ (id, h.stopped id.0) ∷ []) id c
       go c (inl old) = done_more table h.done ((id, h.stopped id.0) ∷ []) id c (t.cast id c old)
       go c (inr v) = record { work = h.stopped id.0; there = has_last h.done (id, h.stopped id.0); voted = v }
+
+      promised : (p : Promise Value) → p.low < p.high → Has (w (seat table id)).durable.promises p ⊎ (owner (acceptors table) p.ballot ≡ seat table id)
+          → (owner (acceptors table) p.ballot ≡ seat table id) ⊎ IsToldIn (ring_of config id table) h.world.frames p
+      promised p lt (inl old) = t.told id p old lt
+      promised p lt (inr own) = inl own
+
+      told : (p : Promise Value) → Has (durables (happens (After (seat table id)) w) (seat table id)).promises p → p.low < p.high
+          → (owner (acceptors table) p.ballot ≡ seat table id) ⊎ IsToldIn (ring_of config id table) h.world.frames p
+      told p has lt = promised p lt (s.silent p (subst (λ (x : machine.Node Value). Has x.durable.promises p)
+          (node_there w (seat table id) (record { durable = (w (seat table id)).pending; pending = (w (seat table id)).pending })) has) lt)
 
       casts : (c : Proposal Value) → Has (durables (happens (After (seat table id)) w) (seat table id)).casts c → IsDoneBy table (h.done ++ (id, h.stopped id.0) ∷ []) id c
       casts c has = go c (s.made.voted c (subst (λ (x : machine.Node Value). Has x.durable.casts c)
@@ -298,7 +370,7 @@ module _ (config : Config) (table : RingTable) (d : IsDeployed config table) (fr
 
   -- a node that is down, of which one state is known
   module _ (id : NodeId) (stood : Possible) (world : World) (h : History) (t : Tied config table from (record h { world = with_host id (Down stood stood) world })) where
-    down : DownStands table (t.machine_world (seat table id)) (h.stopped id.0) stood.state stood.state
+    down : DownStands table (seat table id) (t.machine_world (seat table id)) (h.stopped id.0) stood.state stood.state
     down = subst (λ (x : Host). HostStands config table t.machine_world id (h.stopped id.0) x) (host_there id (Down stood stood) world) (t.stands.hosts id)
 
     read_now : IsReadIn (durables t.machine_world (seat table id)) (ring_at stood.state table.id)
@@ -336,6 +408,7 @@ module _ (config : Config) (table : RingTable) (d : IsDeployed config table) (fr
                 lines = g.stands.lines;
                 done = g.stands.done;
                 cast = g.stands.cast;
+                told = g.stands.told;
                 works = g.stands.works;
                 read = g.stands.read;
               });
@@ -353,6 +426,7 @@ module _ (config : Config) (table : RingTable) (d : IsDeployed config table) (fr
             lines = v.lines;
             done = v.done;
             cast = v.cast;
+            told = v.told;
             works = v.works;
             read = v.read;
           });
@@ -367,8 +441,9 @@ module _ (config : Config) (table : RingTable) (d : IsDeployed config table) (fr
               durable_ties = down.durable_ties;
               pending_ties = kept_rings (t.machine_world (seat table id)).pending stood.state left.state same down.pending_ties;
               made = down.made;
+              silent = down.silent;
             })
-            h.done (λ e has. has) t.stands.done (λ c has. t.stands.cast id c has)
+            h.done (λ e has. has) t.stands.done (λ c has. t.stands.cast id c has) world.frames (λ x there. there) t.stands.frames (λ p has lt. t.stands.told id p has lt)
 
   -- ---- clients
 
@@ -380,7 +455,7 @@ module _ (config : Config) (table : RingTable) (d : IsDeployed config table) (fr
     sound = t.sound;
     stands = more_lines config table t.machine_world (record h { world = with_frames did.frames (with_client id did.client h.world) }) did.lines (quiet (durables t.machine_world)).lines
         (more_frames config table t.machine_world (record h { world = with_client id did.client h.world }) did.frames (quiet (durables t.machine_world)).frames
-        (record { hosts = s.hosts; frames = s.frames; lines = s.lines; done = s.done; cast = s.cast; works = s.works; read = s.read }));
+        (record { hosts = s.hosts; frames = s.frames; lines = s.lines; done = s.done; cast = s.cast; told = s.told; works = s.works; read = s.read }));
   }
     where
       s : WorldStands config table t.machine_world h
@@ -408,7 +483,7 @@ module _ (config : Config) (table : RingTable) (d : IsDeployed config table) (fr
       (event_said config table d t.machine_world t.sound h t.stands id event may)
 
   chosen_now : (h : History) (t : Tied config table from h) (id : NodeId) (after : Bool) (durable pending : Possible)
-      → DownStands table (t.machine_world (seat table id)) (h.stopped id.0) durable.state pending.state
+      → DownStands table (seat table id) (t.machine_world (seat table id)) (h.stopped id.0) durable.state pending.state
       → Tied config table from (record (found id after h) { world = with_host id (Down (chosen after durable pending) (chosen after durable pending)) h.world })
   chosen_now h t id after durable pending s =
       since config table from t.machine_world (record (found id after h) { world = with_host id (Down (chosen after durable pending) (chosen after durable pending)) h.world }) t.later
@@ -487,11 +562,13 @@ module _ (config : Config) (table : RingTable) (d : IsDeployed config table) whe
         durable_ties = subst (λ (r : RingState). KeptTies blank r) (sym nothing_at) none;
         pending_ties = subst (λ (r : RingState). KeptTies blank r) (sym nothing_at) none;
         made = none_recorded table.id blank;
+        silent = λ p has lt. absurd has;
       };
       frames = tt;
       lines = tt;
       done = tt;
       cast = λ id c has. absurd has;
+      told = λ id p has lt. absurd has;
       works = tt;
       read = tt;
     };

@@ -12,7 +12,9 @@ use Rattle.vote_state.specs.declared.cast.Cast.{Cast}
 use Rattle.vote_state.specs.declared.change.Change.TheVariants as change
 use Rattle.vote_state.specs.Ranges.{cast_at}
 use Rattle.vote_state.specs.State.{State, ring_at}
-use Rattle.ring_safety.specs.Faces.{owner}
+use Rattle.ring_safety.specs.Deeds.{IsDue}
+use Rattle.ring_safety.specs.Faces.{Vote, owner, rank}
+use Rattle.ring_kept.specs.Kept.{told_of}
 use Rattle.protocol.specs.Learner.{value_in}
 use Rattle.protocol.specs.Lines.{Learn}
 use Rattle.protocol.specs.Node.{View, RingPart, Work, part_at}
@@ -84,26 +86,31 @@ pub record DoneRule (table : RingTable) (early late : History) : Type 0 where
 
 -- ---- Propose
 
--- a ballot below the proposal's, above which no member votes below it, and all of whose proposals are for the value
-pub record IsHighest (table : RingTable) (h : History) (members : ℕ → Bool) (ballot i : ℕ) (value : Value) : Type 0 where
-  pub highest : ℕ
-  pub lower : highest < ballot
-  pub outdone : (k : ℕ) → k < acceptors table → members k ≡ true → (below : ℕ) (other : Value) → HasVoted table h (acceptor_at table k) below i other → below < ballot → below ≤ highest
-  pub same : (other : Value) → IsProposed table h highest i other → other ≡ value
+-- An acceptor has sent a promise of the ballot in a frame, whose page holds the instance and whose trim isn't above it, and which
+-- reports this vote there, if any.
+pub record HasPromised (table : RingTable) (h : History) (id : NodeId) (ballot i : ℕ) (report : Option (Vote Value)) : Type 0 where
+  pub lo : ℕ
+  pub hi : ℕ
+  pub trim : ℕ
+  pub votes : List Voted
+  pub sent : HasSent h id (body.Promise table.id ballot lo hi trim votes)
+  pub low : lo ≤ i
+  pub high : i < hi
+  pub untrimmed : trim ≤ i
+  pub reports : report ≡ told_of (cast_at i votes)
 
--- no member votes there in a lower ballot
-abbrev pub IsFree : RingTable → History → (ℕ → Bool) → (ballot i : ℕ) → Type 0
-IsFree table h members ballot i = (k : ℕ) → k < acceptors table → members k ≡ true → (below : ℕ) (other : Value)
-    → HasVoted table h (acceptor_at table k) below i other → below < ballot → ⊥
-
--- A majority of acceptors has promised the ballot (of its owner this is its own start), and the value is that of the highest
--- ballot below it in which a member votes at the instance, where one does.
+-- A majority of acceptors stands behind a proposal: each has sent a promise of the ballot for the instance, or is the ballot's owner,
+-- whose start is one. What they report there is of lower ballots, and outdoes each vote of a lower ballot that they ever cast or
+-- hold there. The value is that of the highest report, where there is one.
 pub record Backs (table : RingTable) (h : History) (ballot i : ℕ) (value : Value) : Type 0 where
   pub members : ℕ → Bool
   pub majority : IsMajority (acceptors table) members
-  pub promised : (k : ℕ) → k < acceptors table → members k ≡ true → (k ≡ owner (acceptors table) ballot → ⊥) → (state : State)
-      → MayKeep (h.world.hosts (acceptor_at table k).0) state → ballot ≤ (ring_at state table.id).promise
-  pub due : IsFree table h members ballot i ⊎ IsHighest table h members ballot i value
+  pub report : ℕ → Option (Vote Value)
+  pub promised : (k : ℕ) → k < acceptors table → members k ≡ true → HasPromised table h (acceptor_at table k) ballot i (report k) ⊎ (k ≡ owner (acceptors table) ballot)
+  pub lower : (k : ℕ) → k < acceptors table → members k ≡ true → rank (report k) ≤ ballot
+  pub outdone : (k : ℕ) → k < acceptors table → members k ≡ true → (below : ℕ) (other : Value) → HasVoted table h (acceptor_at table k) below i other → below < ballot
+      → below < rank (report k)
+  pub due : IsDue (acceptors table) members report value
 
 pub record ProposeRule (table : RingTable) (h : History) : Type 0 where
   pub one : (ballot i : ℕ) (u v : Value) → IsProposed table h ballot i u → IsProposed table h ballot i v → u ≡ v

@@ -1,5 +1,5 @@
 -- How a world without bytes, with its history, stands for a world of the machine of one ring.
-use Rattle.std.specs.Prelude.{◌≡◌, ℕ, ◌<◌, ◌≤◌, List, length, Some}
+use Rattle.std.specs.Prelude.{◌≡◌, ◌⊎◌, ℕ, ◌<◌, ◌≤◌, List, length, Some}
 use Rattle.std.specs.List.{AllByRecursion}
 use Rattle.mrp_types.specs.declared.id.NodeId.{NodeId}
 use Rattle.mrp_types.specs.declared.value.Value.{Value}
@@ -10,7 +10,7 @@ use Rattle.range_map.specs.Entries.{value_at}
 use Rattle.vote_state.specs.declared.cast.Cast.{Cast}
 use Rattle.vote_state.specs.declared.ring.RingState.{RingState}
 use Rattle.vote_state.specs.State.{State, ring_at}
-use Rattle.ring_safety.specs.Faces.{Proposal, Face}
+use Rattle.ring_safety.specs.Faces.{Promise, Proposal, Face, owner}
 use Rattle.ring_safety.specs.Worlds.{CanRun, durables}
 use Rattle.ring_safety.specs.Worlds as machine
 use Rattle.ring_safety.specs.Invariant.{Sound}
@@ -18,7 +18,7 @@ use Rattle.ring_reach.specs.Reach.{proposal}
 use Rattle.ring_kept.specs.Kept.{KeptTies}
 use Rattle.protocol.specs.Rings.{ring_of}
 use Rattle.protocol.specs.Node.{Work}
-use Rattle.ring_tables.specs.Ties.{IsSaid, IsTold, IsRecorded, IsVotedIn, AreRecorded}
+use Rattle.ring_tables.specs.Ties.{IsSaid, IsTold, IsRecorded, IsVotedIn, IsToldIn, AreRecorded}
 use Rattle.ring_steps.specs.Stands.{ViewStands, changes_in}
 use Rattle.bare_world.specs.Worlds.{Host, Up, Down}
 use Rattle.ring_runs.specs.Histories.{History}
@@ -28,17 +28,19 @@ use Rattle.ring_runs.specs.Seats.{acceptors, nobody, seat}
 
 -- a node that is down: its two states stand for its two faces, and what the later one has cast beyond the earlier one is what the
 -- stopped step would have recorded
-pub record DownStands (table : RingTable) (node : machine.Node Value) (stopped : Work) (durable pending : State) : Type 0 where
+pub record DownStands (table : RingTable) (a : ℕ) (node : machine.Node Value) (stopped : Work) (durable pending : State) : Type 0 where
   pub durable_rings : table.id.0 < length durable.rings
   pub pending_rings : table.id.0 < length pending.rings
   pub durable_ties : KeptTies node.durable (ring_at durable table.id)
   pub pending_ties : KeptTies node.pending (ring_at pending table.id)
   pub made : AreRecorded table.id node.durable node.pending (changes_in stopped)
+  -- it has told nobody of a promise with a page, but for starts of its own
+  pub silent : (p : Promise Value) → Has node.pending.promises p → p.low < p.high → Has node.durable.promises p ⊎ (owner (acceptors table) p.ballot ≡ a)
 
 -- a node that is up: its view stands for its durable face, by what the durable faces of all say
 abbrev pub HostStands : Config → RingTable → machine.World Value → NodeId → Work → Host → Type 0
 HostStands config table w id stopped (Up view) = ViewStands (ring_of config id table) (durables w) (w (seat table id)).durable view
-HostStands config table w id stopped (Down durable pending) = DownStands table (w (seat table id)) stopped durable.state pending.state
+HostStands config table w id stopped (Down durable pending) = DownStands table (seat table id) (w (seat table id)) stopped durable.state pending.state
 
 -- ---- what was done
 
@@ -69,6 +71,9 @@ pub record WorldStands (config : Config) (table : RingTable) (w : machine.World 
   -- what is done stands in durable faces, and each vote of a durable face is done
   pub done : AllByRecursion (WorkStands table w) h.done
   pub cast : (id : NodeId) (c : Proposal Value) → Has (durables w (seat table id)).casts c → IsDoneBy table h.done id c
+  -- each promise of a durable face with a page was sent, or is a start of its node's own
+  pub told : (id : NodeId) (p : Promise Value) → Has (durables w (seat table id)).promises p → p.low < p.high
+      → (owner (acceptors table) p.ballot ≡ seat table id) ⊎ IsToldIn (ring_of config id table) h.world.frames p
   -- the world's own histories: what steps recorded that ended well, and what openings have read
   pub works : AllByRecursion (λ (e : NodeId × Work). Has h.done e) h.world.works
   pub read : AllByRecursion (ReadStands table w) h.world.read

@@ -55,8 +55,9 @@ pub fn what_is_done_is_kept()
         → MayRun config (history config xs at_first).world ys → DoneRule table (history config xs at_first) (history config ys (history config xs at_first)) }
 {}
 
-/// Propose: in one ballot and instance all proposals have one value; and a majority of acceptors has promised the ballot, and the
-/// value is that of the highest ballot below it in which one of them ever votes at the instance, where one does.
+/// Propose: in one ballot and instance all proposals have one value; and a majority of acceptors has sent promises of the ballot, of
+/// its owner this is its start, whose pages hold the instance and whose trims aren't above it, and the value is that of the
+/// highest vote of a lower ballot that they report there, where they report one.
 pub fn propose()
     ensures { (config : Config) (table : RingTable) → IsValid config → Has config.rings table → (xs : List Happening) → MayRun config nothing xs → ProposeRule table (history config xs at_first) }
 {}
