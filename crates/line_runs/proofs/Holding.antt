@@ -1,13 +1,10 @@
 -- What is covered is held.
-use Rattle.std.proofs.Common.{◌≡◌, ℕ, suc, ◌<◌, ◌≤◌, ◌⊎◌, inl, inr, Bool, true, List, [], ◌∷◌, refl, sym, subst, arith}
+use Rattle.std.proofs.Common.{◌≡◌, ℕ, suc, ◌<◌, inl, inr, List, [], ◌∷◌, refl, arith}
 use Rattle.std.specs.Prelude.{length}
-use Rattle.std.specs.List.{AllByRecursion}
-use Rattle.mrp_types.specs.declared.id.NodeId.{NodeId}
 use Rattle.mrp_types.specs.declared.id.RingId.{RingId}
 use Rattle.mrp_config.specs.Config.{Config}
 use Rattle.mrp_config.specs.declared.tables.PartitionTable.{PartitionTable}
 use Rattle.quorums.specs.Groups.{Has}
-use Rattle.protocol.specs.Lines.{Line}
 use Rattle.protocol.specs.Rings.{subscribers_of}
 use Rattle.bare_world.specs.Worlds.{Happening}
 use Rattle.faithful.specs.Scanners.{some_reaches, told}
