@@ -155,7 +155,7 @@ same-table f g (other ∷ keys) key after same =
 
 -- ---- the order of keys
 
-antisymmetric : (a b : List ℕ) → bytes_eq a b ≡ false → is_before a b ≡ false → is_before b a ≡ true
+pub antisymmetric : (a b : List ℕ) → bytes_eq a b ≡ false → is_before a b ≡ false → is_before b a ≡ true
 antisymmetric a b differ not = by (slice_cmp nat_cmp a b) refl (is_eq-slice_cmp a b ∙ differ) not
   where
     by : (o : Ordering) → slice_cmp nat_cmp a b ≡ o → is_eq o ≡ false → is_lt o ≡ false → is_before b a ≡ true

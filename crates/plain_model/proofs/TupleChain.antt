@@ -10,10 +10,10 @@ use Rattle.mrp_types.proofs.PlaceOrder.{in_one_order}
 use Rattle.plain_model.specs.Tuples.{is_at_or_after, tuple_before, is_valid_tuple, has_rings, is_tuple_of, IsBelow, IsNotBelow}
 use Rattle.plain_model.proofs.TupleOrder.{split_and, both_true, false_not_true, before_chain, valid_is_front, same_number}
 
-le_is : (a b : ℕ) → a ≤ b → IsTrue (nat_le a b)
+pub le_is : (a b : ℕ) → a ≤ b → IsTrue (nat_le a b)
 le_is a b le = grind arith
 
-is_le : (a b : ℕ) → IsTrue (nat_le a b) → a ≤ b
+pub is_le : (a b : ℕ) → IsTrue (nat_le a b) → a ≤ b
 is_le a b h = grind arith
 
 -- two tuples of the same rings have the same ring first
@@ -27,11 +27,11 @@ pub later_rings : (ring : RingId) (rings : List RingId) (x : RingId × ℕ) (xs 
 later_rings ring rings x xs h = (split_and (ring.0 == x.0.0) (has_rings rings xs) h).1
 
 -- a place that is below the second tuple and not below the first
-abbrev Apart : List (RingId × ℕ) → List (RingId × ℕ) → Type 0
+abbrev pub Apart : List (RingId × ℕ) → List (RingId × ℕ) → Type 0
 Apart a b = (p : Place) × (IsBelow p b × IsNotBelow p a)
 
 -- the first tuple is at or after the second, or some place is below the second alone
-or_apart : (rings : List RingId) (a b : List (RingId × ℕ)) → has_rings rings a ≡ true → has_rings rings b ≡ true → (is_at_or_after a b ≡ true) ⊎ Apart a b
+pub or_apart : (rings : List RingId) (a b : List (RingId × ℕ)) → has_rings rings a ≡ true → has_rings rings b ≡ true → (is_at_or_after a b ≡ true) ⊎ Apart a b
 or_apart rings [] b ha hb = inl refl
 or_apart rings (x ∷ xs) [] ha hb = inl refl
 or_apart [] (x ∷ xs) (y ∷ ys) ha hb = absurd (true≢false (sym ha))

@@ -1,29 +1,14 @@
 -- Tables stay tables.
-use Rattle.std.proofs.Common.{arith, ◌≡◌, ◌≤◌, ℕ, Bool, true, false, not, if◌then◌else◌, List, [], ◌∷◌, length, Option, Some, None, refl, ap, ◌∙◌, true≢false}
+use Rattle.std.proofs.Common.{arith, ◌≡◌, ◌≤◌, ℕ, Bool, true, false, not, if◌then◌else◌, List, [], ◌∷◌, length, Option, Some, None, refl}
 use Rattle.std.specs.Prelude.{bytes_eq, filter}
 use Rattle.std.specs.List.{AllByRecursion}
-use Rattle.std.specs.Ordering.{nat_cmp, is_lt, is_eq, ordering_reverse}
-use Rattle.std.specs.Cmp.Lexicographic.{slice_cmp}
-use Rattle.std.specs.declared.cmp.Ordering.{Ordering}
-use Rattle.std.specs.declared.cmp.Ordering.TheVariants.{Less, Equal, Greater}
-use Rattle.std.proofs.lemmas.Cmp.{nat_list_cmp_total}
-use Rattle.std.proofs.lemmas.Map.Text.{is_eq-slice_cmp}
 use Rattle.command_codec.specs.declared.reply.TableEntry.{TableEntry}
 use Rattle.command_codec.specs.Replies.{IsTableEntry}
 use Rattle.command_codec.specs.Valid.{IsKey, IsStored}
 use Rattle.mrp_config.specs.Routing.{is_before}
 use Rattle.plain_model.specs.Replicas.{value_of, without, put_in, with_entry}
-use Rattle.plain_model.proofs.FoldTable.{before_chain, other_turned}
+use Rattle.plain_model.proofs.FoldTable.{antisymmetric, before_chain, other_turned}
 use Rattle.state_laws.specs.States.{AreRisingAfter}
-
--- a copy of the lemma of this name in plain_model, which is private there
-antisymmetric : (a b : List ℕ) → bytes_eq a b ≡ false → is_before a b ≡ false → is_before b a ≡ true
-antisymmetric a b differ not = by (slice_cmp nat_cmp a b) refl (is_eq-slice_cmp a b ∙ differ) not
-  where
-    by : (o : Ordering) → slice_cmp nat_cmp a b ≡ o → is_eq o ≡ false → is_lt o ≡ false → is_before b a ≡ true
-    by Less e d n = absurd (true≢false n)
-    by Equal e d n = absurd (true≢false d)
-    by Greater e d n = ap is_lt (nat_list_cmp_total.antisymm b a ∙ ap ordering_reverse e)
 
 -- a key comes after no bytes
 after_none : (key : List ℕ) → 1 ≤ length key → is_before [] key ≡ true

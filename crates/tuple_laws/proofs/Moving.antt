@@ -7,7 +7,7 @@ use Rattle.mrp_config.specs.Valid.{IncreasesFrom, numbers_of_rings}
 use Rattle.plain_model.specs.Tuples.{next_place, moved_past, past, past_many, first_tuple, is_at_or_after, is_valid_tuple, has_rings, is_tuple_of, IsOneOf}
 use Rattle.plain_model.specs.Fold.{count_below, rings_of}
 use Rattle.plain_model.proofs.TupleOrder.{split_and, both_true, same_number, other_number, next_is_one, past_many_valid}
-use Rattle.plain_model.proofs.TupleChain.{one_reaches, same_first, later_rings, by_entries, by_parts_of_list}
+use Rattle.plain_model.proofs.TupleChain.{is_le, one_reaches, same_first, later_rings, by_entries, by_parts_of_list}
 use Rattle.plain_model.proofs.TupleAt.{by_number}
 
 -- ---- rings
@@ -120,10 +120,6 @@ count_many m (suc n) ring rings tuple rise has =
     omega (arith, count_many m n ring rings (past m tuple) rise (has_past m (ring ∷ rings) tuple has), count_past m ring rings tuple rise has)
 
 -- ---- two tuples with as many places below, one at or after the other, are one
-
--- a copy of the lemma of this name in plain_model, which is private there
-is_le : (a b : ℕ) → IsTrue (nat_le a b) → a ≤ b
-is_le a b h = grind arith
 
 pub fewer : (rings : List RingId) (a b : List (RingId × ℕ)) → has_rings rings a ≡ true → has_rings rings b ≡ true → is_at_or_after a b ≡ true → count_below b ≤ count_below a
 fewer [] [] [] ha hb after = omega arith

@@ -7,33 +7,11 @@ use Rattle.mrp_types.proofs.PlaceOrder.{in_one_order}
 use Rattle.mrp_config.specs.Config.{has_ring}
 use Rattle.plain_model.specs.Tuples.{place_of, next_place, tuple_at, count_before, is_at_or_after, is_valid_tuple, has_rings, is_tuple_of, IsBelow, IsNotBelow}
 use Rattle.plain_model.proofs.TupleOrder.{split_and, both_true, same_number, next_is_one, none_before_next, not_below_by, valid_is_front}
-use Rattle.plain_model.proofs.TupleChain.{reaches_same, same_first, later_rings}
+use Rattle.plain_model.proofs.TupleChain.{Apart, or_apart, le_is, reaches_same, same_first, later_rings}
 use Rattle.plain_model.proofs.TupleAt.{below_is_before, not_below_is_not_before}
 use Rattle.tuple_laws.proofs.Moving.{itself}
 
 -- ---- the tuple of the next place
-
--- Copies of what plain_model has by these names, private there: le_is, Apart and or_apart.
-le_is : (a b : ℕ) → a ≤ b → IsTrue (nat_le a b)
-le_is a b le = grind arith
-
--- a place that is below the second tuple and not below the first
-abbrev Apart : List (RingId × ℕ) → List (RingId × ℕ) → Type 0
-Apart a b = (p : Place) × (IsBelow p b × IsNotBelow p a)
-
-or_apart : (rings : List RingId) (a b : List (RingId × ℕ)) → has_rings rings a ≡ true → has_rings rings b ≡ true → (is_at_or_after a b ≡ true) ⊎ Apart a b
-or_apart rings [] b ha hb = inl refl
-or_apart rings (x ∷ xs) [] ha hb = inl refl
-or_apart [] (x ∷ xs) (y ∷ ys) ha hb = absurd (true≢false (sym ha))
-or_apart (ring ∷ rings) (x ∷ xs) (y ∷ ys) ha hb =
-    by (cases_lt x.1 y.1) (or_apart rings xs ys (later_rings ring rings x xs ha) (later_rings ring rings y ys hb))
-  where
-    by : (x.1 < y.1) ⊎ (y.1 ≤ x.1) → (is_at_or_after xs ys ≡ true) ⊎ Apart xs ys → (is_at_or_after (x ∷ xs) (y ∷ ys) ≡ true) ⊎ Apart (x ∷ xs) (y ∷ ys)
-    by (inl less) later =
-        let p : Place = record { ring = x.0; inst = x.1 } in
-        inr (p, (inl (same_first ring rings x y xs ys ha hb, less), inl (refl, omega arith)))
-    by (inr le) (inr w) = inr (w.0, (inr w.1.0, inr w.1.1))
-    by (inr le) (inl rest) = inl (both_true (nat_le y.1 x.1) (is_at_or_after xs ys) (le_is y.1 x.1 le) rest)
 
 pub at_has : (m : ℕ → ℕ) (rings : List RingId) (place : Place) → has_rings rings (tuple_at m rings place) ≡ true
 at_has m [] place = refl
