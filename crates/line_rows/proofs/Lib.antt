@@ -1,1 +1,3 @@
+mod Splitting
+mod Deployment
 pub mod May

@@ -1,5 +1,5 @@
 -- A run with a trim, a crash, a recovery from another node, and a delivery after it.
-use Rattle.std.specs.Prelude.{ℕ, List, [], ◌∷◌}
+use Rattle.std.specs.Prelude.{ℕ, zero, suc, List, [], ◌∷◌, Option, Some, None}
 use Rattle.mrp_types.specs.declared.id.NodeId.{NodeId}
 use Rattle.mrp_types.specs.declared.id.RingId.{RingId}
 use Rattle.mrp_types.specs.declared.id.ClientId.{ClientId}
@@ -9,6 +9,7 @@ use Rattle.mrp_config.specs.Config.{Config}
 use Rattle.command_codec.specs.declared.command.Command.TheVariants as command
 use Rattle.protocol.specs.Lines.{Line, Begin, Chose, Deliver, Restore, Saved, Trim, Up, Down, Crash}
 use Rattle.bare_world.specs.Worlds.{Happening, nothing}
+use Rattle.bare_world.specs.Runs.{run}
 use Rattle.line_rows.specs.Moves.{Move, Open, Lead, Ask, Fall, happenings, flow, ticks}
 
 abbrev pub node : ℕ → NodeId
@@ -26,6 +27,10 @@ log n = record { 0 = n }
 abbrev pub partition : ℕ → PartitionId
 partition n = record { 0 = n }
 
+-- 127.0.0.1:7100 to :7102, and :7200
+abbrev pub address : ℕ → ℕ → List ℕ
+address hundreds last = 49 ∷ 50 ∷ 55 ∷ 46 ∷ 48 ∷ 46 ∷ 48 ∷ 46 ∷ 49 ∷ 58 ∷ 55 ∷ hundreds ∷ 48 ∷ last ∷ []
+
 -- three nodes, each an acceptor of the one ring and a replica of the one partition; two of them are either quorum
 abbrev pub config : Config
 config = record {
@@ -39,8 +44,8 @@ config = record {
   trim = 8;
   window = 16;
   journal = 1048576;
-  nodes = (record { id = node 0; address = [] }) ∷ (record { id = node 1; address = [] }) ∷ (record { id = node 2; address = [] }) ∷ [];
-  clients = (record { id = client 0; address = [] }) ∷ [];
+  nodes = (record { id = node 0; address = address 49 48 }) ∷ (record { id = node 1; address = address 49 49 }) ∷ (record { id = node 2; address = address 49 50 }) ∷ [];
+  clients = (record { id = client 0; address = address 50 48 }) ∷ [];
   rings = (record { id = ring 0; acceptors = node 0 ∷ node 1 ∷ node 2 ∷ [] }) ∷ [];
   partitions = (record { id = partition 0; replicas = node 0 ∷ node 1 ∷ node 2 ∷ []; rings = ring 0 ∷ []; home = ring 0; from = []; to = []; logs = log 0 ∷ []; trim_quorum = 2; recovery_quorum = 2 }) ∷ [];
 }
@@ -59,6 +64,29 @@ moves =
 
 abbrev pub happened : List Happening
 happened = happenings config moves 0 nothing
+
+abbrev pub lines : List Line
+lines = (run config happened nothing).lines
+
+-- the restore line of this number, counted from 0: its node and tuple
+abbrev pub restore_at : ℕ → List Line → Option (NodeId × List ℕ)
+restore_at n [] = None
+restore_at zero (Restore x tuple ∷ lines) = Some (x, tuple)
+restore_at (suc n) (Restore x tuple ∷ lines) = restore_at n lines
+restore_at n (other ∷ lines) = restore_at n lines
+
+-- the lines before it, and those after it
+abbrev pub before_restore : ℕ → List Line → List Line
+before_restore n [] = []
+before_restore zero (Restore x tuple ∷ lines) = []
+before_restore (suc n) (Restore x tuple ∷ lines) = Restore x tuple ∷ before_restore n lines
+before_restore n (other ∷ lines) = other ∷ before_restore n lines
+
+abbrev pub after_restore : ℕ → List Line → List Line
+after_restore n [] = []
+after_restore zero (Restore x tuple ∷ lines) = lines
+after_restore (suc n) (Restore x tuple ∷ lines) = after_restore n lines
+after_restore n (other ∷ lines) = after_restore n lines
 
 -- the lines of nodes' lives and the trims, without what was learned, replied and answered
 abbrev pub of_lives : List Line → List Line
