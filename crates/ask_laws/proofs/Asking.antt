@@ -5,7 +5,6 @@ use Rattle.std.proofs.lemmas.Bool.Decides.{nat_tests}
 use Rattle.mrp_types.specs.declared.id.ClientId.{ClientId}
 use Rattle.mrp_types.specs.declared.id.RingId.{RingId}
 use Rattle.command_codec.specs.declared.command.Command.{Command}
-use Rattle.command_codec.specs.Valid.{IsCommand}
 use Rattle.mrp_config.specs.declared.routing.NoGroup.{NoGroup}
 use Rattle.mrp_config.specs.Config.{Config}
 use Rattle.mrp_config.specs.Routing.{concerned_of, route_of}

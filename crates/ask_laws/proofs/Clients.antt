@@ -10,7 +10,6 @@ use Rattle.command_codec.specs.declared.fault.CodecFault.{CodecFault}
 use Rattle.command_codec.specs.declared.reply.Reply.{Reply}
 use Rattle.command_codec.specs.Grammar.{reply_of}
 use Rattle.command_codec.specs.Spelling.{command_bytes}
-use Rattle.command_codec.specs.Valid.{IsCommand}
 use Rattle.mrp_config.specs.declared.tables.PartitionTable.{PartitionTable}
 use Rattle.mrp_config.specs.Config.{Config, ring_at, partition_at}
 use Rattle.mrp_config.specs.Routing.{concerned_of, route_of, is_concerned}

@@ -1,7 +1,6 @@
 -- A run that may be, in which a command is asked and learned.
 use Rattle.std.proofs.Common.{◌≡◌, [], ◌∷◌, inl, refl, arith}
 use Rattle.std.specs.Fmt.{digits}
-use Rattle.std.specs.List.{AllByRecursion}
 use Rattle.mrp_config.specs.Address.{IsAddress}
 use Rattle.mrp_config.specs.Routing.{is_concerned}
 use Rattle.mrp_config.specs.Valid.{IsValid, AreSeats}
@@ -29,10 +28,11 @@ use Rattle.vote_state.specs.Ranges.{ranges_of, are_held}
 use Rattle.bare_world.specs.Worlds.{nothing}
 use Rattle.bare_world.specs.Runs.{run, MayRun}
 use Rattle.state_laws.proofs.Examples.{bytes_by}
-use Rattle.ask_laws.specs.Asks.{learned_in, asked_in, IsAsked}
+use Rattle.ask_laws.specs.Asks.{asked_in, IsAsked}
+use Rattle.plain_model.specs.Lines.{learnings}
 use Rattle.ask_laws.specs.Example.{config, command, entry, a_run, learned}
 
-pub run-learns : learned_in (run config a_run nothing).lines ≡ learned ∷ []
+pub run-learns : learnings (run config a_run nothing).lines ≡ learned ∷ []
 unfolding u16_bytes u64_bytes append_at command_of_kind command_at entry_at batch_at bytes_at number_at within length_at string_at is_concerned effect_of apply state_bytes covered_to asks leads submits are_all_held met_over gap_after learns does merges opened first_where offers proposing proposes_after restores chooses begins members_of step spread_over quiet_after ranges_of are_held lib.Count.ones
 run-learns = refl
 

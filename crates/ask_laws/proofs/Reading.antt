@@ -1,5 +1,5 @@
 -- The entries of a value are read back, and values are bytes where the commands that were asked are.
-use Rattle.std.proofs.Common.{◌≡◌, ◌≤◌, ℕ, Bool, true, false, List, [], ◌∷◌, ◌++◌, Option, Some, Result, Ok, refl, sym, subst, arith, ap, ◌∙◌}
+use Rattle.std.proofs.Common.{◌≡◌, ◌≤◌, ℕ, Bool, true, false, List, [], ◌∷◌, Option, Some, Result, Ok, refl, sym, subst, arith, ap, ◌∙◌}
 use Rattle.std.specs.Prelude.{◌==◌, if◌then◌else◌}
 use Rattle.std.specs.List.{AllByRecursion}
 use Rattle.hex.specs.Hex.{IsBytes}
@@ -21,13 +21,13 @@ use Rattle.plain_model.specs.Replicas.{entries_or_none}
 use Rattle.plain_model.specs.Fold.{entries_of_value}
 use Rattle.state_laws.specs.Books.{IsOfBytes, AreOfBytes}
 use Rattle.protocol.specs.Lines.{Line, Learn}
-use Rattle.bare_world.specs.Worlds.{Happening, Asks, nothing}
+use Rattle.bare_world.specs.Worlds.{Happening, nothing}
 use Rattle.bare_world.specs.Runs.{run, MayRun}
 use Rattle.ask_laws.specs.Carried.{ValueCarries, LineCarries}
-use Rattle.ask_laws.specs.Asks.{asked_in, IsAsked, learned_in}
+use Rattle.ask_laws.specs.Asks.{asked_in, IsAsked}
+use Rattle.plain_model.specs.Lines.{learnings}
 use Rattle.ask_laws.proofs.Commands.{IsOfBytes as EntryOfBytes, batch_are}
 use Rattle.ask_laws.proofs.Lists.{mapped}
-use Rattle.ask_laws.proofs.Told.{was-told}
 use Rattle.ask_laws.proofs.Worlds.{all_keep}
 
 -- ---- entries
@@ -64,15 +64,15 @@ module _ (config : Config) (hs : List Happening) (valid : IsValid config) where
   value-of-bytes r (Batch batch) is =
       subst (λ (text : List ℕ). IsBytes text) (sym is.spelled) (batch_are is.entries (mapped (IsAsked config (asked_in config hs) r) EntryOfBytes (entry_of_bytes r) is.entries is.each))
 
-  lines_of_bytes : (lines : List Line) → AllByRecursion (LineCarries (IsAsked config (asked_in config hs))) lines → AreOfBytes (learned_in lines)
+  lines_of_bytes : (lines : List Line) → AllByRecursion (LineCarries (IsAsked config (asked_in config hs))) lines → AreOfBytes (learnings lines)
   lines_of_bytes [] all = tt
   lines_of_bytes (l ∷ lines) all = by l all.0 (lines_of_bytes lines all.1)
     where
-      by : (l : Line) → LineCarries (IsAsked config (asked_in config hs)) l → AreOfBytes (learned_in lines) → AreOfBytes (learned_in (l ∷ lines))
+      by : (l : Line) → LineCarries (IsAsked config (asked_in config hs)) l → AreOfBytes (learnings lines) → AreOfBytes (learnings (l ∷ lines))
       by (Learn node ring lo hi value) is later = (value-of-bytes ring.0 value is, later)
       by other is later = later
 
-  pub book-of-bytes : MayRun config nothing hs → AreOfBytes (learned_in (run config hs nothing).lines)
+  pub book-of-bytes : MayRun config nothing hs → AreOfBytes (learnings (run config hs nothing).lines)
   book-of-bytes may = lines_of_bytes (run config hs nothing).lines (all_keep config hs may).carried.lines
 
 -- ---- commands

@@ -3,13 +3,11 @@ use Rattle.std.specs.Prelude.{◌++◌, ◌≡◌, ◌<◌, ◌≤◌, ◌+◌, 
 use Rattle.mrp_types.specs.declared.id.RingId.{RingId}
 use Rattle.mrp_types.specs.declared.value.Entry.{Entry}
 use Rattle.mrp_types.specs.Entries.{IsEntry}
-use Rattle.mrp_types.specs.Book.{Learning}
 use Rattle.command_codec.specs.declared.command.Command.{Command}
 use Rattle.command_codec.specs.Spelling.{command_bytes}
 use Rattle.mrp_config.specs.declared.routing.NoGroup.{NoGroup}
 use Rattle.mrp_config.specs.Config.{Config}
 use Rattle.mrp_config.specs.Routing.{concerned_of, route_of}
-use Rattle.protocol.specs.Lines.{Line, Learn}
 use Rattle.protocol.specs.Client.{Asked, ClientView, MayBeAsked}
 use Rattle.bare_world.specs.Worlds.{World, Happening, Asks, happens, nothing}
 use Rattle.bare_world.specs.Runs.{IsClient, run}
@@ -97,11 +95,3 @@ pub record ClientKeeps (config : Config) (asked : ℕ → ℕ → Option Command
 pub record ClientsKeep (config : Config) (asked : ℕ → ℕ → Option Command) (clients : ℕ → ClientView) : Type 0 where
   pub taken : (c s : ℕ) (command : Command) → asked c s ≡ Some command → IsTaken config c s (clients c).next command
   pub each : (c : ℕ) → ClientKeeps config asked c (clients c)
-
--- ---- lines
-
--- what the lines tell that was learned, in order
-abbrev pub learned_in : List Line → List Learning
-learned_in [] = []
-learned_in (Learn node ring lo hi value ∷ lines) = record { ring = ring; lo = lo; hi = hi; value = value } ∷ learned_in lines
-learned_in (other ∷ lines) = learned_in lines

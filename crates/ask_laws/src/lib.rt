@@ -18,11 +18,12 @@ ghost use Rattle.command_codec.specs.Grammar.{command_of};
 ghost use Rattle.mrp_config.specs.Config.{Config};
 ghost use Rattle.mrp_config.specs.Valid.{IsValid};
 ghost use Rattle.plain_model.specs.Fold.{entries_of_value};
+ghost use Rattle.plain_model.specs.Lines.{learnings};
 ghost use Rattle.state_laws.specs.Books.{IsOfBytes, AreOfBytes};
 ghost use Rattle.bare_world.specs.Worlds.{Happening, nothing};
 ghost use Rattle.bare_world.specs.Runs.{run, MayRun};
 ghost use Rattle.ask_laws.specs.Carried.{ValueCarries, WorldCarries};
-ghost use Rattle.ask_laws.specs.Asks.{asked_in, IsAsked, WasTold, ClientsKeep, learned_in};
+ghost use Rattle.ask_laws.specs.Asks.{asked_in, IsAsked, WasTold, ClientsKeep};
 ghost use Rattle.ask_laws.specs.Example.{config, a_run, learned, entry};
 
 /// In every run each value is Skip or the one spelling of a batch whose entries were asked on its ring: in a vote that is kept,
@@ -80,13 +81,13 @@ pub fn values_are_of_bytes()
     ensures value { (config : Config) (hs : List Happening) (ring : ℕ) (value : Value) → IsValid config →
         ValueCarries (IsAsked config (asked_in config hs)) ring value → IsOfBytes value }
     ensures book { (config : Config) (hs : List Happening) → IsValid config → MayRun config nothing hs →
-        AreOfBytes (learned_in (run config hs nothing).lines) }
+        AreOfBytes (learnings (run config hs nothing).lines) }
 {}
 
 /// A run that meets these premises, on a valid deployment of one node and one client: the command that the client asks is learned.
 pub fn a_command_is_learned()
     ensures valid { IsValid config }
     ensures may { MayRun config nothing a_run }
-    ensures learned { learned_in (run config a_run nothing).lines ≡ learned ∷ [] }
+    ensures learned { learnings (run config a_run nothing).lines ≡ learned ∷ [] }
     ensures asked { IsAsked config (asked_in config a_run) 0 entry }
 {}

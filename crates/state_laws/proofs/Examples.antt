@@ -1,7 +1,6 @@
 -- An entry and a partition of which the laws speak.
 use Rattle.std.proofs.Common.{arith, ◌<◌, ℕ, zero, suc, List, [], ◌∷◌, get_or}
 use Rattle.std.specs.List.{AllByRecursion}
-use Rattle.hex.specs.Hex.{IsBytes}
 use Rattle.command_codec.specs.Fields.{u16_bytes}
 use Rattle.plain_model.specs.Rows.{alone, hi}
 use Rattle.state_laws.specs.States.{IsGiven, HasFewLogs}
@@ -17,6 +16,3 @@ an_example = (
   record { few = omega arith; low = (omega arith, tt) },
   record { client = omega arith; asked = omega arith; numbered = omega arith; bytes = bytes_by hi.command (omega arith, (omega arith, (omega arith, (omega arith, (omega arith, (omega arith, tt)))))) },
 )
-
-pub bytes_are : (bytes : List ℕ) → IsBytes bytes → (i : ℕ) → get_or bytes i 0 < 256
-bytes_are bytes are = are
