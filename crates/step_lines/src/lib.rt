@@ -16,8 +16,7 @@ ghost use Rattle.protocol.specs.Node.{Event, View};
 ghost use Rattle.protocol.specs.Opening.{opened, partition_of, parts_of};
 ghost use Rattle.protocol.specs.Step.{step};
 ghost use Rattle.faithful.specs.Scanners.{past};
-ghost use Rattle.faithful.specs.Rules.{AreFaithful};
-ghost use Rattle.recovery_lines.specs.Ties.{AreCovered, IsFit, IsPlaced, KnownLines, PartTold, StepLines, ViewLines, rings_in};
+ghost use Rattle.recovery_lines.specs.Ties.{AreCovered, AreRight, IsFit, IsPlaced, KnownLines, PartTold, StepLines, ViewLines, rings_in};
 ghost use Rattle.step_lines.specs.Dids.{AllAgree, EventSaid, KeptFor, LeftTold};
 
 /// A step on an event that was said. Whether its work is done or stopped, the node and its rings stay, each trim that it keeps
@@ -39,6 +38,6 @@ pub fn openings()
         → KeptFor c lines id epoch checks.newest (partition_of c.partitions id) → AreCovered c (Up id (epoch + 1) ∷ lines) journal.state
         → LeftTold c (Up id (epoch + 1) ∷ lines) id (rings_in (parts_of c id journal.state c.rings)) (opened c id journal checks) }
     ensures right { (c : Config) → IsFit c → (lines : List Line) (id : NodeId) (journal : Journal) (checks : Checks) (epoch : ℕ) → journal.state.epoch ≡ epoch + 1
-        → KeptFor c lines id epoch checks.newest (partition_of c.partitions id) → AreFaithful c lines → KnownLines c lines → AreCovered c (Up id (epoch + 1) ∷ lines) journal.state
+        → KeptFor c lines id epoch checks.newest (partition_of c.partitions id) → AreRight c lines → KnownLines c lines → AreCovered c (Up id (epoch + 1) ∷ lines) journal.state
         → (new : List Line) × StepLines c (Up id (epoch + 1) ∷ lines) new id (opened c id journal checks) }
 {}
