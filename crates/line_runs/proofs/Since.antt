@@ -78,7 +78,7 @@ module _ (c : Config) (first second : List Happening) (r : IsRun c (first ++ sec
       let same : start.partition ≡ p = some_same start.partition p (sym start.replica ∙ s.replica) in
       subst (λ (q : PartitionTable). inst ≤ entry_of q.rings ring printed) same
       (start.covered ring inst (subst (λ (q : PartitionTable). has_ring q.rings ring.0 ≡ true) (sym same) has)
-      (so_since So more x.0 s.since (begin ∷ old) (more begin old kept) (so_before So more x.0 begin old kept ?) start.earlier (sym (ap (λ (ls : List Line). before_begin x.0 ls) turned) ∙ start.begins)))
+      (so_since So more x.0 s.since (begin ∷ old) (more begin old kept) so_then start.earlier (sym (ap (λ (ls : List Line). before_begin x.0 ls) turned) ∙ start.begins)))
     where
       some_same : (u v : PartitionTable) → Some u ≡ Some v → u ≡ v
       some_same u v q = cc
@@ -94,6 +94,15 @@ module _ (c : Config) (first second : List Happening) (r : IsRun c (first ++ sec
 
       kept : So old
       kept = all_many So more s.between (latest_first (lines_of c first)) is
+
+      begun_now : before_begin x.0 (begin ∷ old) ≡ Some old
+      begun_now = rw (same_number x.0) refl
+
+      some_lines : (u v : List Line) → Some u ≡ Some v → u ≡ v
+      some_lines u v q = cc
+
+      so_then : (earlier : List Line) → before_begin x.0 (begin ∷ old) ≡ Some earlier → So earlier
+      so_then earlier e = subst So (some_lines old earlier (sym begun_now ∙ e)) kept
 
   pub since_disks : (n : ℕ) (q : Possible) → IsPossible (host_of c first n) q → (ring : RingId) → has_ring p.rings ring.0 ≡ true → trim_at q.state ring ≤ entry_of p.rings ring printed
   since_disks n q is ring has = reaches ring (trim_at q.state ring) has ((possible_lines c first (first_run c first second r) n q is).covered ring)
