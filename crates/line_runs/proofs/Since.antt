@@ -1,5 +1,5 @@
 -- A recovery that began in the second part of a run starts past each trim of the world that the first part leaves.
-use Rattle.std.proofs.Common.{◌≡◌, ℕ, ◌≤◌, Bool, true, false, List, [], ◌∷◌, ◌++◌, Option, Some, refl, sym, ◌∙◌, ap, subst}
+use Rattle.std.proofs.Common.{◌≡◌, ℕ, ◌≤◌, Bool, true, false, List, [], ◌∷◌, ◌++◌, Some, refl, sym, ◌∙◌, ap, subst}
 use Rattle.std.specs.Prelude.{if◌then◌else◌}
 use Rattle.mrp_types.specs.declared.id.NodeId.{NodeId}
 use Rattle.mrp_types.specs.declared.id.RingId.{RingId}
@@ -22,6 +22,9 @@ use Rattle.line_runs.specs.Invariant.{latest_first}
 use Rattle.line_runs.specs.Laws.{IsRun, lines_of, host_of, IsPossible, NodeSent, trim_told, RestoresSince, StartsPast}
 use Rattle.line_runs.proofs.Laws.{recovery_past, possible_lines, frame_covered}
 
+some_same : {T : Type 0} (u v : T) → Some u ≡ Some v → u ≡ v
+some_same u v q = cc
+
 -- ---- what is so of some lines, and of any lines more, is so of those before a later begin line
 
 module _ (P : List Line → Type 0) (more : (l : Line) (lines : List Line) → P lines → P (l ∷ lines)) (x : ℕ) where
@@ -32,9 +35,6 @@ module _ (P : List Line → Type 0) (more : (l : Line) (lines : List Line) → P
   so_before : (l : Line) (lines : List Line) → P lines → IsSoBefore lines → IsSoBefore (l ∷ lines)
   so_before l lines so before earlier e = by_touch (touches x l) e
     where
-      some_same : (u v : List Line) → Some u ≡ Some v → u ≡ v
-      some_same u v q = cc
-
       by_line : (k : Line) → or_else (lines_before lines k) (before_begin x lines) ≡ Some earlier → P earlier
       by_line (Begin node epoch attempt tuple) q = subst P (some_same lines earlier q) so
       by_line other q = before earlier q
@@ -80,9 +80,6 @@ module _ (c : Config) (first second : List Happening) (r : IsRun c (first ++ sec
       (start.covered ring inst (subst (λ (q : PartitionTable). has_ring q.rings ring.0 ≡ true) (sym same) has)
       (so_since So more x.0 s.since (begin ∷ old) (more begin old kept) so_then start.earlier (sym (ap (λ (ls : List Line). before_begin x.0 ls) turned) ∙ start.begins)))
     where
-      some_same : (u v : PartitionTable) → Some u ≡ Some v → u ≡ v
-      some_same u v q = cc
-
       So : List Line → Type 0
       So ls = IsCovered c ls ring inst
 
@@ -98,11 +95,8 @@ module _ (c : Config) (first second : List Happening) (r : IsRun c (first ++ sec
       begun_now : before_begin x.0 (begin ∷ old) ≡ Some old
       begun_now = rw (same_number x.0) refl
 
-      some_lines : (u v : List Line) → Some u ≡ Some v → u ≡ v
-      some_lines u v q = cc
-
       so_then : (earlier : List Line) → before_begin x.0 (begin ∷ old) ≡ Some earlier → So earlier
-      so_then earlier e = subst So (some_lines old earlier (sym begun_now ∙ e)) kept
+      so_then earlier e = subst So (some_same old earlier (sym begun_now ∙ e)) kept
 
   pub since_disks : (n : ℕ) (q : Possible) → IsPossible (host_of c first n) q → (ring : RingId) → has_ring p.rings ring.0 ≡ true → trim_at q.state ring ≤ entry_of p.rings ring printed
   since_disks n q is ring has = reaches ring (trim_at q.state ring) has ((possible_lines c first (first_run c first second r) n q is).covered ring)

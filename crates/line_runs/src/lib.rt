@@ -52,7 +52,7 @@ pub fn choices_and_restores()
 {}
 
 /// Rule F6 in the headline's words: each recovery starts at or past every trim, of every ring of its partition, that was made
-/// before it began. So what it needs was trimmed by nobody. Of lines: it starts past each trim whose line stands before its
+/// before it began. So what it needs was trimmed by nobody by then. Of lines: it starts past each trim whose line stands before its
 /// attempt's begin line, and past all that the lines before that line cover, also where the trim's step was stopped and its line
 /// never printed. Of worlds: an attempt that began in the second part of a run starts at or past each trim that some disk may
 /// stand for, and each that a frame tells, in the world that the first part leaves.

@@ -16,7 +16,7 @@ use Rattle.protocol.specs.Trimming.{has_answered}
 use Rattle.faithful.specs.Scanners.{told, entry_of, Reaches, some_reaches, tuples_told}
 use Rattle.faithful.specs.Rules.{IsReached, HaveTold, AllHaveTold, IsFaithfulLine, AreFaithful}
 use Rattle.faithful.specs.Answers.{Both}
-use Rattle.recovery_lines.specs.Ties.{IsFit, IsCovered, ReachesCovered, IsAnswer, AnswerLines, AttemptLines}
+use Rattle.recovery_lines.specs.Ties.{IsFit, ReachesCovered, IsAnswer, AnswerLines, AttemptLines}
 use Rattle.faithful.proofs.Growing.{all_more}
 use Rattle.faithful.proofs.Quorum.{all_has, mapped, share, all_count, different_count, AnswerOf, answer_of, all_answered, entry_reaches, some_reaches_is, subscribed}
 

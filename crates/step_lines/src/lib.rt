@@ -21,7 +21,8 @@ ghost use Rattle.step_lines.specs.Dids.{AllAgree, EventSaid, KeptFor, LeftTold};
 
 /// A step on an event that was said. Whether its work is done or stopped, the node and its rings stay, each trim that it keeps
 /// is covered by what was told before the step, and its newest checkpoint reaches all that it told. Where each of its learn lines
-/// agrees with the book before it, all its lines meet their rules, and all that it sends, learns and keeps is tied to them.
+/// agrees with the book before it, all its lines meet their rules, each choice reaches all that was covered when its attempt began,
+/// and all that it sends, learns and keeps is tied to them.
 pub fn steps()
     ensures left { (c : Config) → IsFit c → (lines : List Line) (view : View) → ViewLines c lines view → AllByRecursion (IsPlaced c view.id) (rings_in view.parts)
         → AllByRecursion (PartTold c lines) view.parts → AreCovered c lines view.journal.state → (event : Event) → EventSaid c lines view.id event
