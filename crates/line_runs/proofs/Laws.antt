@@ -26,10 +26,11 @@ use Rattle.protocol.specs.Node.{View, Service, Stage, Ready, Standing}
 use Rattle.bare_world.specs.Worlds.{Possible, Host, Up, Down, Happening, nothing, World}
 use Rattle.bare_world.specs.Runs.{run}
 use Rattle.faithful.specs.Scanners.{past, touches, or_else, chosen, choice_told, before_begin, lines_before, told, book, learned_by, entry_of, some_reaches}
-use Rattle.faithful.specs.Rules.{Restores, IsReached, IsFaithfulLine, AreFaithful}
+use Rattle.faithful.specs.Rules.{Restores, IsReached, IsFaithfulLine}
 use Rattle.faithful.proofs.Growing.{past_more}
 use Rattle.faithful.proofs.Quorum.{all_has, some_reaches_is, entry_reaches}
-use Rattle.recovery_lines.specs.Ties.{IsCovered, KeptLines, BodySaid, PartySaid, IsSaid, ReplicaLines, ServiceLines, StageLines, ReadyLines, newest_of}
+use Rattle.recovery_lines.specs.Ties.{IsRightLine, AreRight, IsCovered, ReachesCovered, KeptLines, BodySaid, PartySaid, IsSaid, ReplicaLines, ServiceLines, StageLines, ReadyLines, newest_of}
+use Rattle.recovery_lines.proofs.Right.{right_line}
 use Rattle.step_lines.specs.Dids.{Agrees, AllAgree, KeptFor}
 use Rattle.step_lines.proofs.Ending.{kept_for}
 use Rattle.line_runs.specs.Invariant.{node, latest_first, PossibleLines, UpLines, HostLines, WorldLines}
@@ -121,20 +122,21 @@ one_value c hs r =
 pub run_lines : (c : Config) (hs : List Happening) → IsRun c hs → WorldLines c (run c hs nothing)
 run_lines c hs r = run_kept c (valid_fits c r.valid) hs nothing (first_world c) r.may (one_agrees (past [] (lines_of c hs)) (turned (lines_of c hs) (one_value c hs r)))
 
-faithful_before : (c : Config) (new lines : List Line) → AreFaithful c (past lines new) → AreFaithful c lines
-faithful_before c [] lines f = f
-faithful_before c (l ∷ new) lines f = (faithful_before c new (l ∷ lines) f).1
+right_before : (c : Config) (new lines : List Line) → AreRight c (past lines new) → AreRight c lines
+right_before c [] lines f = f
+right_before c (l ∷ new) lines f = (right_before c new (l ∷ lines) f).1
+
+pub right_then : (c : Config) (hs : List Happening) → IsRun c hs → (before after : List Line) → lines_of c hs ≡ before ++ after → AreRight c (latest_first before)
+right_then c hs r before after e =
+    right_before c after (past [] before) (subst (λ (ls : List Line). AreRight c ls) (ap (λ (ls : List Line). past [] ls) e ∙ past_more [] before after) (run_lines c hs r).right)
 
 -- each line is faithful to those before it
 pub line_holds : (c : Config) (hs : List Happening) → IsRun c hs → (before after : List Line) (l : Line) → lines_of c hs ≡ before ++ l ∷ after → IsFaithfulLine c (latest_first before) l
 line_holds c hs r before after l e =
-    (faithful_before c after (l ∷ past [] before) (subst (λ (ls : List Line). AreFaithful c ls) (ap (λ (ls : List Line). past [] ls) e ∙ past_more [] before (l ∷ after)) (run_lines c hs r).faithful)).0
+    right_line c (past [] before) l
+    (right_before c after (l ∷ past [] before) (subst (λ (ls : List Line). AreRight c ls) (ap (λ (ls : List Line). past [] ls) e ∙ past_more [] before (l ∷ after)) (run_lines c hs r).right)).0
 
-pub faithful_then : (c : Config) (hs : List Happening) → IsRun c hs → (before after : List Line) → lines_of c hs ≡ before ++ after → AreFaithful c (latest_first before)
-faithful_then c hs r before after e =
-    faithful_before c after (past [] before) (subst (λ (ls : List Line). AreFaithful c ls) (ap (λ (ls : List Line). past [] ls) e ∙ past_more [] before after) (run_lines c hs r).faithful)
-
--- ---- a choice stands past the trims before its begin line
+-- ---- a choice stands past the trims before its begin line, and past all that is covered there
 
 record ChosenPast (c : Config) (lines : List Line) (x : ℕ) (t : List ℕ) (begun : Option (List Line)) : Type 0 where
   partition : PartitionTable
@@ -142,41 +144,50 @@ record ChosenPast (c : Config) (lines : List Line) (x : ℕ) (t : List ℕ) (beg
   earlier : List Line
   begins : begun ≡ Some earlier
   trims : AllByRecursion (IsReached partition.rings t) earlier
+  covered : ReachesCovered c earlier partition.rings t
 
-chosen_past : (c : Config) (x : ℕ) (t : List ℕ) (lines : List Line) → AreFaithful c lines → chosen x lines ≡ Some (Some t) → ChosenPast c lines x t (before_begin x lines)
+chosen_past : (c : Config) (x : ℕ) (t : List ℕ) (lines : List Line) → AreRight c lines → chosen x lines ≡ Some (Some t) → ChosenPast c lines x t (before_begin x lines)
 chosen_past c x t [] f e = absurd (cc)
 chosen_past c x t (l ∷ lines) f e = by_touch (touches x l) refl e (λ g. chosen_past c x t lines f.1 g)
   where
     same_num : (i j : ℕ) → (i == j) ≡ true → i ≡ j
     same_num i j q = grind (arith, nat_tests)
 
-    by_line : (k : Line) → touches x k ≡ true → IsFaithfulLine c lines k → or_else (choice_told lines k) (chosen x lines) ≡ Some (Some t) → (chosen x lines ≡ Some (Some t) → ChosenPast c lines x t (before_begin x lines))
+    by_line : (k : Line) → touches x k ≡ true → IsRightLine c lines k → or_else (choice_told lines k) (chosen x lines) ≡ Some (Some t) → (chosen x lines ≡ Some (Some t) → ChosenPast c lines x t (before_begin x lines))
         → ChosenPast c (k ∷ lines) x t (or_else (lines_before lines k) (before_begin x lines))
     by_line (Chose n epoch attempt tuple from) q h g rest =
         let same : n.0 ≡ x = same_num n.0 x q in
         let printed : tuple ≡ t = cc in
         record {
-          partition = h.partition;
-          replica = subst (λ (k : ℕ). partition_of c.partitions (node k) ≡ Some h.partition) same h.replica;
-          earlier = h.earlier;
-          begins = subst (λ (k : ℕ). before_begin k lines ≡ Some h.earlier) same h.begins;
-          trims = subst (λ (u : List ℕ). AllByRecursion (IsReached h.partition.rings u) h.earlier) printed h.trims;
+          partition = h.0.partition;
+          replica = subst (λ (k : ℕ). partition_of c.partitions (node k) ≡ Some h.0.partition) same h.0.replica;
+          earlier = h.0.earlier;
+          begins = subst (λ (k : ℕ). before_begin k lines ≡ Some h.0.earlier) same h.0.begins;
+          trims = subst (λ (u : List ℕ). AllByRecursion (IsReached h.0.partition.rings u) h.0.earlier) printed h.0.trims;
+          covered = subst (λ (u : List ℕ). ReachesCovered c h.0.earlier h.0.partition.rings u) printed h.1;
         }
     by_line (Begin n epoch attempt tuple) q h g rest = absurd (cc)
     by_line (WentUp n epoch) q h g rest = absurd (cc)
     by_line (WentDown n cause) q h g rest = absurd (cc)
-    by_line other q h g rest = let r = rest g in record { partition = r.partition; replica = r.replica; earlier = r.earlier; begins = r.begins; trims = r.trims }
+    by_line other q h g rest = let r = rest g in record { partition = r.partition; replica = r.replica; earlier = r.earlier; begins = r.begins; trims = r.trims; covered = r.covered }
 
     by_touch : (b : Bool) → touches x l ≡ b → (if b then or_else (choice_told lines l) (chosen x lines) else chosen x lines) ≡ Some (Some t)
         → (chosen x lines ≡ Some (Some t) → ChosenPast c lines x t (before_begin x lines)) → ChosenPast c (l ∷ lines) x t (if b then or_else (lines_before lines l) (before_begin x lines) else before_begin x lines)
     by_touch true q g rest = by_line l q f.0 g rest
-    by_touch false q g rest = let r = rest g in record { partition = r.partition; replica = r.replica; earlier = r.earlier; begins = r.begins; trims = r.trims }
+    by_touch false q g rest = let r = rest g in record { partition = r.partition; replica = r.replica; earlier = r.earlier; begins = r.begins; trims = r.trims; covered = r.covered }
 
 pub recovery_past : (c : Config) (hs : List Happening) → IsRun c hs → (before after : List Line) (x : NodeId) (printed : List ℕ) → lines_of c hs ≡ before ++ Restore x printed ∷ after → StartsPast c (latest_first before) x printed
 recovery_past c hs r before after x printed e =
     let rule : Restores c (latest_first before) x printed = line_holds c hs r before after (Restore x printed) e in
-    let p = chosen_past c x.0 printed (latest_first before) (faithful_then c hs r before (Restore x printed ∷ after) e) rule.choice in
-    record { partition = p.partition; replica = p.replica; earlier = p.earlier; begins = p.begins; trims = λ m ring inst h has. all_has (IsReached p.partition.rings printed) p.earlier (Trim m ring inst) p.trims h has }
+    let p = chosen_past c x.0 printed (latest_first before) (right_then c hs r before (Restore x printed ∷ after) e) rule.choice in
+    record {
+      partition = p.partition;
+      replica = p.replica;
+      earlier = p.earlier;
+      begins = p.begins;
+      trims = λ m ring inst h has. all_has (IsReached p.partition.rings printed) p.earlier (Trim m ring inst) p.trims h has;
+      covered = p.covered;
+    }
 
 -- ---- possible states
 

@@ -5,4 +5,5 @@ pub mod Runs
 pub mod Fitting
 pub mod Agreeing
 pub mod Laws
+pub mod Since
 pub mod Holding

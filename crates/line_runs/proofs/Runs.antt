@@ -99,7 +99,7 @@ module _ (c : Config) (fit : IsFit c) (w : World) (ties : WorldLines c w) where
       (subst (λ (to : Party). PartySaid c (past [] w.lines) may.sent.frame.from to may.sent.frame.body) may.by s)
 
   view_lines : (view : View) (n : ℕ) → UpLines c (past [] w.lines) n view → ViewLines c (past [] w.lines) view
-  view_lines view n u = record { faithful = ties.faithful; known = ties.known; parts = u.parts; replica = subst (λ (x : NodeId). ReplicaLines c (past [] w.lines) x view.journal.state.epoch view.checks.newest view.service) (sym u.id) u.replica }
+  view_lines view n u = record { right = ties.right; known = ties.known; parts = u.parts; replica = subst (λ (x : NodeId). ReplicaLines c (past [] w.lines) x view.journal.state.epoch view.checks.newest view.service) (sym u.id) u.replica }
 
   left_of : (view : View) (id : NodeId) (event : Event) → UpLines c (past [] w.lines) id.0 view → MayCome w id event → LeftTold c (past [] w.lines) id (rings_in view.parts) (step c view event)
   left_of view id event u may = subst (λ (x : NodeId). LeftTold c (past [] w.lines) x (rings_in view.parts) (step c view event)) u.id
@@ -159,7 +159,7 @@ module _ (c : Config) (fit : IsFit c) (w : World) (ties : WorldLines c w) where
       let up : Line = line.Up id ((chosen after durable pending).state.epoch + 1) in
       let covered : AreCovered c (up ∷ past [] w.lines) journal.state = covered_past c (up ∷ []) (past [] w.lines) journal.state (rings_covered (past [] w.lines) journal.state (chosen after durable pending).state may.rings p.covered) in
       let did : Stepped = opened c id journal checks in
-      let r = opened_lines c fit (past [] w.lines) id journal checks (chosen after durable pending).state.epoch may.epoch kept ties.faithful ties.known covered in
+      let r = opened_lines c fit (past [] w.lines) id journal checks (chosen after durable pending).state.epoch may.epoch kept ties.right ties.known covered in
       let l = opened_left c fit (past [] w.lines) id journal checks (chosen after durable pending).state.epoch may.epoch kept covered in
       let v : World = opens_as c id journal checks (Down durable pending) w in
       subst (λ (ls : List Line). TiedTo c ls v) (sym (r.1.printed) ∙ sym (ap (λ (n : ℕ). past (line.Up id n ∷ past [] w.lines) did.lines) may.epoch) ∙ sym (past_more [] w.lines (line.Up id journal.state.epoch ∷ did.lines)))

@@ -39,7 +39,7 @@ no_trim (suc k) zero = refl
 no_trim (suc k) (suc i) = no_trim k i
 
 pub first_world : (c : Config) → WorldLines c nothing
-first_world c = record { faithful = tt; known = λ r p k replica valid h. absurd h; frames = tt; hosts = λ n. (one n, one n) }
+first_world c = record { right = tt; known = λ r p k replica valid h. absurd h; frames = tt; hosts = λ n. (one n, one n) }
   where
     one : (n : ℕ) → PossibleLines c [] n (record { state = nothing_kept; newest = None })
     one n = record { kept = go (partition_of c.partitions (node n)); covered = λ ring. inl (no_trim 16 ring.0) }

@@ -1,6 +1,5 @@
 -- A step of one node, well or stopped, and the other nodes.
 use Rattle.protocol.specs.Parts.{Ring}
-use Rattle.faithful.specs.Rules.{AreFaithful}
 use Rattle.std.proofs.Common.{◌≡◌, ℕ, Bool, true, false, List, [], ◌∷◌, ◌++◌, Option, Some, None, refl, sym, ◌∙◌, subst, arith, true≢false, suc}
 use Rattle.std.specs.Prelude.{◌==◌, if◌then◌else◌}
 use Rattle.std.specs.List.{AllByRecursion}
@@ -16,7 +15,7 @@ use Rattle.protocol.specs.Node.{Stepped, RingPart}
 use Rattle.bare_world.specs.Worlds.{Possible, Host, Up, Down, World}
 use Rattle.faithful.specs.Scanners.{past}
 use Rattle.faithful.proofs.Quorum.{appended, mapped}
-use Rattle.recovery_lines.specs.Ties.{AreCovered, PartTold, PartLines, IsOf, IsSaid, StepLines, IsPlaced, KnownLines}
+use Rattle.recovery_lines.specs.Ties.{AreRight, AreCovered, PartTold, PartLines, IsOf, IsSaid, StepLines, IsPlaced, KnownLines}
 use Rattle.recovery_lines.proofs.More.{IsCovered-more, PartLines-more, PartTold-more, KnownLines-more}
 use Rattle.recovery_lines.proofs.Merging.{IsStill, many}
 use Rattle.recovery_lines.proofs.Printing.{differ}
@@ -75,7 +74,7 @@ pub stepped_world : (c : Config) (lines : List Line) (w v : World) (x : ℕ) (fi
     → AllByRecursion (IsOf (node x)) first → TiedTo c lines w → (rings : List Ring) → AllByRecursion (IsPlaced c (node x)) rings → LeftTold c (past lines first) (node x) rings did → StepLines c (past lines first) new (node x) did → TiedTo c new v
 stepped_world c lines w v x first new did fs hs own ties rings placed left s =
     subst (λ (ls : List Line). TiedTo c ls v) s.printed (record {
-      faithful = now.faithful;
+      right = now.right;
       known = now.known;
       frames = subst (λ (ss : List Sent). AllByRecursion (IsSaid c (past (past lines first) did.lines)) ss) (sym fs)
           (appended (IsSaid c (past (past lines first) did.lines)) w.frames did.frames (frames_still c did.lines (past lines first) w.frames (frames_still c first lines w.frames ties.frames)) now.frames);
@@ -103,7 +102,7 @@ stepped_world c lines w v x first new did fs hs own ties rings placed left s =
 pub down_world : (c : Config) (lines : List Line) (w v : World) (x : ℕ) (cause : Cause) (durable pending : Possible) → v.frames ≡ w.frames → v.hosts ≡ (λ n. if n == x then Down durable pending else w.hosts n)
     → TiedTo c lines w → PossibleLines c lines x durable → PossibleLines c lines x pending → TiedTo c (line.Down (node x) cause ∷ lines) v
 down_world c lines w v x cause durable pending fs hs ties first second = record {
-  faithful = (tt, ties.faithful);
+  right = (tt, ties.right);
   known = KnownLines-more c (line.Down (node x) cause) lines (λ r p k e replica fits h. absurd h) ties.known;
   frames = subst (λ (ss : List Sent). AllByRecursion (IsSaid c (line.Down (node x) cause ∷ lines)) ss) (sym fs) (frames_still c (line.Down (node x) cause ∷ []) lines w.frames ties.frames);
   hosts = subst (λ (f : ℕ → Host). (n : ℕ) → HostLines c (line.Down (node x) cause ∷ lines) n (f n)) (sym hs)
@@ -121,7 +120,7 @@ down_world c lines w v x cause durable pending fs hs ties first second = record 
 pub still_world : (c : Config) (lines : List Line) (w v : World) (new : List Line) (frames : List Sent) → v.frames ≡ w.frames ++ frames → v.hosts ≡ w.hosts → AllByRecursion (IsStill c) new
     → ((ls : List Line) → AllByRecursion (IsSaid c ls) frames) → TiedTo c lines w → TiedTo c (past lines new) v
 still_world c lines w v new frames fs hs still said ties = record {
-  faithful = many c (AreFaithful c) (λ l ls s f. (s.1 ls, f)) new lines still ties.faithful;
+  right = many c (AreRight c) (λ l ls s f. (s.1 ls, f)) new lines still ties.right;
   known = many c (KnownLines c) (λ l ls s k. KnownLines-more c l ls (λ r p t e replica fits h. absurd (true≢false (sym e ∙ s.0 r.0))) k) new lines still ties.known;
   frames = subst (λ (ss : List Sent). AllByRecursion (IsSaid c (past lines new)) ss) (sym fs) (appended (IsSaid c (past lines new)) w.frames frames (frames_still c new lines w.frames ties.frames) (said (past lines new)));
   hosts = subst (λ (f : ℕ → Host). (n : ℕ) → HostLines c (past lines new) n (f n)) (sym hs) (λ n. go n (w.hosts n) (ties.hosts n));

@@ -8,8 +8,7 @@ use Rattle.protocol.specs.Opening.{partition_of}
 use Rattle.protocol.specs.Node.{View}
 use Rattle.bare_world.specs.Worlds.{Possible, Host, Up, Down, World}
 use Rattle.faithful.specs.Scanners.{past}
-use Rattle.faithful.specs.Rules.{AreFaithful}
-use Rattle.recovery_lines.specs.Ties.{IsPlaced, AreCovered, PartTold, PartLines, KnownLines, ReplicaLines, IsSaid, rings_in}
+use Rattle.recovery_lines.specs.Ties.{AreRight, IsPlaced, AreCovered, PartTold, PartLines, KnownLines, ReplicaLines, IsSaid, rings_in}
 use Rattle.step_lines.specs.Dids.{KeptFor}
 
 abbrev pub node : ℕ → NodeId
@@ -38,7 +37,7 @@ HostLines c lines n (Down durable pending) = PossibleLines c lines n durable × 
 
 -- with respect to lines that stand with the latest first
 pub record TiedTo (c : Config) (lines : List Line) (w : World) : Type 0 where
-  pub faithful : AreFaithful c lines
+  pub right : AreRight c lines
   pub known : KnownLines c lines
   pub frames : AllByRecursion (IsSaid c lines) w.frames
   pub hosts : (n : ℕ) → HostLines c lines n (w.hosts n)

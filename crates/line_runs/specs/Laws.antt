@@ -13,7 +13,7 @@ use Rattle.frames.specs.declared.body.Body.TheVariants.{Promise, Trimmed, TrimTo
 use Rattle.frames.specs.declared.sent.Sent.{Sent}
 use Rattle.quorums.specs.Groups.{Has}
 use Rattle.plain_model.specs.Tuples.{round_sizes, is_tuple_of}
-use Rattle.protocol.specs.Lines.{Line, Learn, Trim}
+use Rattle.protocol.specs.Lines.{Line, Begin, Learn, Restore, Trim}
 use Rattle.protocol.specs.Opening.{partition_of}
 use Rattle.protocol.specs.Recovery.{tuple_of_newest}
 use Rattle.protocol.specs.Rings.{subscribers_of}
@@ -21,7 +21,7 @@ use Rattle.bare_world.specs.Worlds.{Possible, Host, Up, Down, Happening, nothing
 use Rattle.bare_world.specs.Runs.{run, MayRun}
 use Rattle.faithful.specs.Scanners.{before_begin, told, Reaches, entry_of}
 use Rattle.faithful.specs.Rules.{AllKnown}
-use Rattle.recovery_lines.specs.Ties.{newest_of}
+use Rattle.recovery_lines.specs.Ties.{ReachesCovered, newest_of}
 
 -- one value of all learn lines of a ring: two of them that cover an instance have the same
 abbrev pub HaveOneValue : List Line → Type 0
@@ -73,13 +73,26 @@ pub record KeepsTold (c : Config) (lines : List Line) (n : ℕ) (p : PartitionTa
   pub reaches : (earlier : List ℕ) → Has (told n lines) earlier → Reaches (newest_of p s.newest) earlier
 
 -- A recovery starts at or past every trim, of every ring of its partition, whose line stands before the begin line of its
--- attempt: `earlier` are the lines before that line.
+-- attempt, and past all that is covered by then, whether a line tells of it or not: `earlier` are the lines before that line.
 pub record StartsPast (c : Config) (before : List Line) (x : NodeId) (printed : List ℕ) : Type 0 where
   pub partition : PartitionTable
   pub replica : partition_of c.partitions x ≡ Some partition
   pub earlier : List Line
   pub begins : before_begin x.0 before ≡ Some earlier
   pub trims : (m : NodeId) (ring : RingId) (inst : ℕ) → Has earlier (Trim m ring inst) → has_ring partition.rings ring.0 ≡ true → inst ≤ entry_of partition.rings ring printed
+  pub covered : ReachesCovered c earlier partition.rings printed
+
+-- A replica of a partition is restored in the second part of a run by an attempt that began there: of the lines after those of the
+-- first part one begins an attempt of the node, and the restore line stands after it.
+pub record RestoresSince (c : Config) (first second : List Happening) (x : NodeId) (p : PartitionTable) (printed : List ℕ) : Type 0 where
+  pub replica : partition_of c.partitions x ≡ Some p
+  pub epoch : ℕ
+  pub attempt : ℕ
+  pub tuple : List ℕ
+  pub between : List Line
+  pub since : List Line
+  pub after : List Line
+  pub at : lines_of c (first ++ second) ≡ lines_of c first ++ (between ++ Begin x epoch attempt tuple ∷ (since ++ Restore x printed ∷ after))
 
 -- A trim quorum of a partition's replicas hold an entry of a ring: those that pass a test are at least as many, and each of them
 -- has, in every state that its disk may stand for, a newest checkpoint whose entry reaches it.

@@ -10,7 +10,7 @@
 ghost use Rattle.std.specs.Prelude.{◌≡◌, ◌≤◌, ℕ, Bool, true, List, ◌∷◌, ◌++◌, Option, Some};
 ghost use Rattle.mrp_types.specs.declared.id.NodeId.{NodeId};
 ghost use Rattle.mrp_types.specs.declared.id.RingId.{RingId};
-ghost use Rattle.mrp_config.specs.Config.{Config};
+ghost use Rattle.mrp_config.specs.Config.{Config, has_ring};
 ghost use Rattle.mrp_config.specs.Valid.{IsValid};
 ghost use Rattle.mrp_config.specs.declared.tables.PartitionTable.{PartitionTable};
 ghost use Rattle.frames.specs.declared.body.Body.{Body};
@@ -29,7 +29,7 @@ ghost use Rattle.faithful.specs.Rules.{AllHaveTold, AllKnown, Begins, Chooses, D
 ghost use Rattle.faithful.specs.Scanners.{Reaches, entry_of, some_reaches, told};
 ghost use Rattle.recovery_lines.specs.Ties.{IsAnswer, IsCovered, IsFit, IsSafe, newest_of};
 ghost use Rattle.line_runs.specs.Invariant.{latest_first, node};
-ghost use Rattle.line_runs.specs.Laws.{HaveOneValue, IsHeld, IsPossible, IsRun, KeepsTold, NodeSent, StartsPast, host_of, lines_of, trim_told};
+ghost use Rattle.line_runs.specs.Laws.{HaveOneValue, IsHeld, IsPossible, IsRun, KeepsTold, NodeSent, RestoresSince, StartsPast, host_of, lines_of, trim_told};
 
 /// Rule F2. A node delivers only while it is ready, the place that it delivers holds a batch, and from the place where it
 /// stood only skips lie before it: so a replica goes through the one order of its rings without a gap, and never back. A save
@@ -52,10 +52,18 @@ pub fn choices_and_restores()
 {}
 
 /// Rule F6 in the headline's words: each recovery starts at or past every trim, of every ring of its partition, that was made
-/// before it began. So what it needs was trimmed by nobody.
+/// before it began. So what it needs was trimmed by nobody by then. Of lines: it starts past each trim whose line stands before its
+/// attempt's begin line, and past all that the lines before that line cover, also where the trim's step was stopped and its line
+/// never printed. Of worlds: an attempt that began in the second part of a run starts at or past each trim that some disk may
+/// stand for, and each that a frame tells, in the world that the first part leaves.
 pub fn recoveries_start_past_trims()
-    ensures { (c : Config) (hs : List Happening) → IsRun c hs → (before after : List Line) (x : NodeId) (printed : List ℕ)
+    ensures lines { (c : Config) (hs : List Happening) → IsRun c hs → (before after : List Line) (x : NodeId) (printed : List ℕ)
         → lines_of c hs ≡ before ++ Restore x printed ∷ after → StartsPast c (latest_first before) x printed }
+    ensures disks { (c : Config) (first second : List Happening) → IsRun c (first ++ second) → (x : NodeId) (p : PartitionTable) (printed : List ℕ) → RestoresSince c first second x p printed
+        → (n : ℕ) (s : Possible) → IsPossible (host_of c first n) s → (ring : RingId) → has_ring p.rings ring.0 ≡ true → trim_at s.state ring ≤ entry_of p.rings ring printed }
+    ensures frames { (c : Config) (first second : List Happening) → IsRun c (first ++ second) → (x : NodeId) (p : PartitionTable) (printed : List ℕ) → RestoresSince c first second x p printed
+        → (sent : Sent) (from to : NodeId) (body : Body) (ring : RingId) (trim : ℕ) → Has (run c first nothing).frames sent → NodeSent sent from to body → trim_told body ≡ Some (ring, trim)
+        → has_ring p.rings ring.0 ≡ true → trim ≤ entry_of p.rings ring printed }
 {}
 
 /// Rule F7. Where a trim line is printed some partition subscribes to the ring, and in each that does a trim quorum of

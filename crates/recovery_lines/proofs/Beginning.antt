@@ -21,6 +21,7 @@ use Rattle.faithful.proofs.Growing.{same_number}
 use Rattle.faithful.proofs.Ordering.{Reaches-refl}
 use Rattle.faithful.proofs.Quorum.{mapped, partition_there}
 use Rattle.recovery_lines.proofs.More.{AllKnown-more, ReplicaLines-quiet}
+use Rattle.recovery_lines.proofs.Right.{right_lines}
 use Rattle.recovery_lines.proofs.Printing.{tells_own, differ, said_sends, all_flat, prints_done, sends_done, stage_done}
 use Rattle.recovery_lines.proofs.Choosing.{best_is, best_reaches, not_begun, choosing}
 
@@ -170,7 +171,7 @@ module _ (c : Config) (fit : IsFit c) (before : List Line) (merged : (a : Acting
         earlier = lines;
         begins = rw (same_number a.view.id.0) refl;
         first = first;
-        faithful = d.faithful;
+        faithful = right_lines c lines d.right;
         different = (refl, tt);
         heard = inl refl;
         answered = (

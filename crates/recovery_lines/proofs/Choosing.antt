@@ -19,12 +19,12 @@ use Rattle.protocol.specs.Merging.{merges}
 use Rattle.protocol.specs.Recovery.{epoch_of, tuple_of_newest, lowers, restores, restores_read, installs_own, is_other, is_better, best_of, asks_part, chooses}
 use Rattle.faithful.specs.Scanners.{Mark, Begun, Restored, touches, life, chosen, before_attempt, lines_before_this, attempts_told, told, begun, or_else, Reaches, position}
 use Rattle.faithful.specs.Rules.{AllKnown, BySkips, Chooses, Restores}
-use Rattle.recovery_lines.specs.Ties.{IsFit, OwnLines, AttemptLines, ChoiceLines, DoneLines, ActLines, AfterLines, newest_of}
+use Rattle.recovery_lines.specs.Ties.{IsFit, ReachesCovered, OwnLines, AttemptLines, ChoiceLines, DoneLines, ActLines, AfterLines, newest_of}
 use Rattle.faithful.proofs.Growing.{same_number, all_more}
 use Rattle.faithful.proofs.Ordering.{Reaches-refl, Reaches-trans, rings_fit, not_after, after_reaches, same_tuple, paired_same}
 use Rattle.faithful.proofs.Quorum.{partition_there}
 use Rattle.recovery_lines.proofs.More.{SameOwn, SameAttempt, AllKnown-more, OwnLines-same, AttemptLines-same, told_same}
-use Rattle.recovery_lines.proofs.Trimmed.{trims_reached}
+use Rattle.recovery_lines.proofs.Trimmed.{trims_reached, covered_reached}
 use Rattle.recovery_lines.proofs.Printing.{differ, said_sends, prints_done, sends_done, stage_done, lowers_done}
 use Rattle.faithful.proofs.Between.{BySkips-refl}
 
@@ -246,6 +246,10 @@ module _ (c : Config) (fit : IsFit c) (before : List Line) (merged : (a : Acting
         told = tells;
       }
 
+      covered : ReachesCovered c at.earlier service.partition.rings (instances best.1)
+      covered = covered_reached c fit lines a.view.id (epoch_of a.view) a.view.checks.newest service.partition (partition_there c.partitions a.view.id service.partition o.replica).there
+          attempt.number attempt.answers at enough (instances best.1) reaches
+
       same_num : (i j : ℕ) → (i == j) ≡ true → i ≡ j
       same_num i j e = grind (arith, nat_tests)
 
@@ -253,7 +257,7 @@ module _ (c : Config) (fit : IsFit c) (before : List Line) (merged : (a : Acting
       other_num i j e same = grind (arith, nat_tests)
 
       done : DoneLines c before (l ∷ lines) (prints (l ∷ []) a)
-      done = prints_done c before lines a d l (λ other ne. differ a.view.id.0 other ne) rule (λ r p k e replica fits h. absurd h)
+      done = prints_done c before lines a d l (λ other ne. differ a.view.id.0 other ne) (rule, covered) (λ r p k e replica fits h. absurd h)
 
       own_more : OwnLines c (l ∷ lines) a.view.id (epoch_of a.view) a.view.checks.newest service.partition service.attempts
       own_more = OwnLines-same c l lines a.view.id (epoch_of a.view) a.view.checks.newest service.partition service.attempts

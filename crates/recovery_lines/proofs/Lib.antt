@@ -1,5 +1,6 @@
 pub mod More
 pub mod Printing
+pub mod Right
 pub mod Trimmed
 pub mod Choosing
 pub mod Beginning

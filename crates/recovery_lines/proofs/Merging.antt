@@ -22,8 +22,8 @@ use Rattle.protocol.specs.Recovery.{epoch_of}
 use Rattle.protocol.specs.Node.{Acting, RingPart, Service, Stage, Recovering, Ready, Standing, part_in, with_stage, prints}
 use Rattle.protocol.specs.Merging.{value_of_part, value_at_place, place_of, reply_line, reply_frame, skipped, passed_batch, delivers_applied, takes_place, goes_on, merges_stage, merges_service, merges_up_to, merges}
 use Rattle.faithful.specs.Scanners.{past as printed_past, touches, told, Reaches, position, book}
-use Rattle.faithful.specs.Rules.{BySkips, Delivers, IsFaithfulLine, AreFaithful}
-use Rattle.recovery_lines.specs.Ties.{KnownLines, IsFit, IsSaid, PartLines, OwnLines, ReadyLines, StageLines, ServiceLines, ReplicaLines, DoneLines, ActLines, AfterLines, newest_of, IsOf}
+use Rattle.faithful.specs.Rules.{BySkips, Delivers}
+use Rattle.recovery_lines.specs.Ties.{IsRightLine, AreRight, KnownLines, IsFit, IsSaid, PartLines, OwnLines, ReadyLines, StageLines, ServiceLines, ReplicaLines, DoneLines, ActLines, AfterLines, newest_of, IsOf}
 use Rattle.faithful.proofs.Growing.{same_number, past_more}
 use Rattle.faithful.proofs.Ordering.{Reaches-trans, rings_fit, is_valid}
 use Rattle.faithful.proofs.Quorum.{appended, mapped, partition_there}
@@ -54,7 +54,7 @@ booked_at c lines (p ∷ parts) ring inst value all e = go (p.ring.id.0 == ring.
 -- ---- lines that are of no node's life and that no rule here speaks of
 
 abbrev pub IsStill : Config → Line → Type 0
-IsStill c l = ((x : ℕ) → touches x l ≡ false) × ((before : List Line) → IsFaithfulLine c before l)
+IsStill c l = ((x : ℕ) → touches x l ≡ false) × ((before : List Line) → IsRightLine c before l)
 
 pub many : (c : Config) (P : List Line → Type 0) → ((l : Line) (lines : List Line) → IsStill c l → P lines → P (l ∷ lines)) → (new lines : List Line) → AllByRecursion (IsStill c) new → P lines → P (printed_past lines new)
 many c P step [] lines still p = p
@@ -68,7 +68,7 @@ module _ (c : Config) (before lines : List Line) (new : List Line) (still : AllB
   prints_still a d = record {
     printed = past_more before a.lines new ∙ ap (λ (ls : List Line). printed_past ls new) d.printed;
     own = appended (IsOf a.view.id) a.lines new d.own (mapped (IsStill c) (IsOf a.view.id) (λ l s other ne. s.0 other) new still);
-    faithful = many c (AreFaithful c) (λ l ls s f. (s.1 ls, f)) new lines still d.faithful;
+    right = many c (AreRight c) (λ l ls s f. (s.1 ls, f)) new lines still d.right;
     known = many c (KnownLines c) (λ l ls s k. KnownLines-more c l ls (λ r p t e replica fits h. absurd (true≢false (sym e ∙ s.0 r.0))) k) new lines still d.known;
     frames = still_said a.frames d.frames;
     replies = still_said a.replies d.replies;
@@ -121,7 +121,7 @@ module _ (c : Config) (fit : IsFit c) (before : List Line) where
       done = record {
         printed = told_lines.printed;
         own = told_lines.own;
-        faithful = told_lines.faithful;
+        right = told_lines.right;
         known = told_lines.known;
         frames = told_lines.frames;
         replies = appended (IsSaid c (printed_past (l ∷ lines) new)) a.replies (map (reply_frame a.view.id service) applied.replies) told_lines.replies (frames_said applied.replies);

@@ -17,8 +17,8 @@ use Rattle.protocol.specs.Rings.{sends_to, sent_by, is_beyond}
 use Rattle.protocol.specs.Node.{Acting, RingPart, Service, Stage, with_stage, prints, sends_all}
 use Rattle.protocol.specs.Recovery.{with_lowered, lowers}
 use Rattle.faithful.specs.Scanners.{paired}
-use Rattle.faithful.specs.Rules.{IsFaithfulLine, AllKnown}
-use Rattle.recovery_lines.specs.Ties.{TellsKnown, BodySaid, IsSaid, PartLines, DoneLines, IsOf}
+use Rattle.faithful.specs.Rules.{AllKnown}
+use Rattle.recovery_lines.specs.Ties.{IsRightLine, TellsKnown, BodySaid, IsSaid, PartLines, DoneLines, IsOf}
 use Rattle.faithful.proofs.Growing.{past_more, same_number}
 use Rattle.faithful.proofs.Ordering.{rings_fit, paired_same}
 use Rattle.faithful.proofs.Quorum.{appended, mapped}
@@ -66,11 +66,11 @@ tells_own c lines x r p q own k e rx rr vo vk (inl same) known =
     some_same u v t = cc
 
 module _ (c : Config) (before lines : List Line) (a : Acting) (d : DoneLines c before lines a) where
-  pub prints_done : (l : Line) → IsOf a.view.id l → IsFaithfulLine c lines l → TellsKnown c lines l → DoneLines c before (l ∷ lines) (prints (l ∷ []) a)
+  pub prints_done : (l : Line) → IsOf a.view.id l → IsRightLine c lines l → TellsKnown c lines l → DoneLines c before (l ∷ lines) (prints (l ∷ []) a)
   prints_done l own f tells = record {
     printed = past_more before a.lines (l ∷ []) ∙ ap (λ (ls : List Line). l ∷ ls) d.printed;
     own = appended (IsOf a.view.id) a.lines (l ∷ []) d.own (own, tt);
-    faithful = (f, d.faithful);
+    right = (f, d.right);
     known = KnownLines-more c l lines tells d.known;
     frames = mapped (IsSaid c lines) (IsSaid c (l ∷ lines)) (IsSaid-more c l lines) a.frames d.frames;
     replies = mapped (IsSaid c lines) (IsSaid c (l ∷ lines)) (IsSaid-more c l lines) a.replies d.replies;
@@ -81,7 +81,7 @@ module _ (c : Config) (before lines : List Line) (a : Acting) (d : DoneLines c b
   sends_done frames said = record {
     printed = d.printed;
     own = d.own;
-    faithful = d.faithful;
+    right = d.right;
     known = d.known;
     frames = appended (IsSaid c lines) a.frames frames d.frames said;
     replies = d.replies;
@@ -89,11 +89,11 @@ module _ (c : Config) (before lines : List Line) (a : Acting) (d : DoneLines c b
   }
 
   pub stage_done : (service : Service) (stage : Stage) → DoneLines c before lines (with_stage service stage a)
-  stage_done service stage = record { printed = d.printed; own = d.own; faithful = d.faithful; known = d.known; frames = d.frames; replies = d.replies; parts = d.parts }
+  stage_done service stage = record { printed = d.printed; own = d.own; right = d.right; known = d.known; frames = d.frames; replies = d.replies; parts = d.parts }
 
   -- what learners hold stays
   pub lowers_done : (tuple : List (RingId × ℕ)) → DoneLines c before lines (lowers tuple a)
-  lowers_done tuple = record { printed = d.printed; own = d.own; faithful = d.faithful; known = d.known; frames = d.frames; replies = d.replies; parts = each a.view.parts d.parts }
+  lowers_done tuple = record { printed = d.printed; own = d.own; right = d.right; known = d.known; frames = d.frames; replies = d.replies; parts = each a.view.parts d.parts }
     where
       each : (parts : List RingPart) → AllByRecursion (PartLines lines) parts → AllByRecursion (PartLines lines) (map (with_lowered tuple) parts)
       each [] all = tt

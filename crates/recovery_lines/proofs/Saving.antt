@@ -43,7 +43,7 @@ module _ (c : Config) (fit : IsFit c) (lines : List Line) (view : View) (ties : 
   saved_lines service standing state own r some = record {
     printed = refl;
     own = (λ other ne. differ view.id.0 other ne, tt);
-    faithful = (rule, ties.faithful);
+    right = (rule, ties.right);
     known = KnownLines-more c l lines (λ q p k e replica valid h. tells_own c lines view.id q service.partition p standing.tuple k e own.replica replica r.valid valid h r.known) ties.known;
     frames = tt;
     parts = mapped (PartLines lines) (PartLines (l ∷ lines)) (PartLines-more c l lines) view.parts ties.parts;

@@ -1,6 +1,6 @@
--- A choice reaches each trim whose line stands before the begin line: a trim quorum told it by then, and one of these replicas
--- answered.
-use Rattle.std.proofs.Common.{◌≡◌, ℕ, ◌+◌, ◌<◌, ◌≤◌, Bool, true, List, [], ◌∷◌, Option, Some, sym, ◌∙◌, subst, arith, le_trans}
+-- A choice reaches each trim whose line stands before the begin line, and all that is covered by then: a trim quorum told it, and
+-- one of these replicas answered.
+use Rattle.std.proofs.Common.{◌≡◌, ℕ, ◌+◌, ◌<◌, ◌≤◌, Bool, true, List, [], ◌∷◌, Option, Some, inl, inr, sym, ◌∙◌, subst, arith, le_trans}
 use Rattle.std.specs.Prelude.{length, count_by}
 use Rattle.std.specs.List.{AllByRecursion}
 use Rattle.mrp_types.specs.declared.id.NodeId.{NodeId}
@@ -16,7 +16,7 @@ use Rattle.protocol.specs.Trimming.{has_answered}
 use Rattle.faithful.specs.Scanners.{told, entry_of, Reaches, some_reaches, tuples_told}
 use Rattle.faithful.specs.Rules.{IsReached, HaveTold, AllHaveTold, IsFaithfulLine, AreFaithful}
 use Rattle.faithful.specs.Answers.{Both}
-use Rattle.recovery_lines.specs.Ties.{IsFit, IsAnswer, AnswerLines, AttemptLines}
+use Rattle.recovery_lines.specs.Ties.{IsFit, ReachesCovered, IsAnswer, AnswerLines, AttemptLines}
 use Rattle.faithful.proofs.Growing.{all_more}
 use Rattle.faithful.proofs.Quorum.{all_has, mapped, share, all_count, different_count, AnswerOf, answer_of, all_answered, entry_reaches, some_reaches_is, subscribed}
 
@@ -88,3 +88,7 @@ module _ (c : Config) (fit : IsFit c) (lines : List Line) (x : NodeId) (epoch : 
 
   pub trims_reached : AllByRecursion (IsReached p.rings best) ties.earlier
   trims_reached = trims_from ties.earlier (λ r t h. h) ties.faithful
+
+  pub covered_reached : ReachesCovered c ties.earlier p.rings best
+  covered_reached ring inst has (inl none) = omega (arith, none)
+  covered_reached ring inst has (inr all) = trim_reached ties.earlier (λ r t h. h) ring inst all has

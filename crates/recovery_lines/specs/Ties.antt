@@ -1,12 +1,12 @@
 -- What a node and its frames have to do with the lines so far, as far as tuples go: no state's bytes.
-use Rattle.std.specs.Prelude.{◌≡◌, ℕ, ◌+◌, ◌<◌, ◌≤◌, ◌⊎◌, true, false, List, Option, Some, None, length, map}
+use Rattle.std.specs.Prelude.{◌≡◌, ℕ, ◌+◌, ◌<◌, ◌≤◌, ◌⊎◌, true, false, List, [], ◌∷◌, Option, Some, None, length, map}
 use Rattle.std.specs.List.{AllByRecursion}
 use Rattle.mrp_types.specs.declared.id.NodeId.{NodeId}
 use Rattle.mrp_types.specs.declared.id.RingId.{RingId}
 use Rattle.mrp_types.specs.declared.id.Party.{Party}
 use Rattle.mrp_types.specs.declared.id.Party.TheVariants.{Node}
 use Rattle.mrp_types.specs.declared.value.Value.{Value}
-use Rattle.mrp_config.specs.Config.{Config, has_node}
+use Rattle.mrp_config.specs.Config.{Config, has_node, has_ring}
 use Rattle.mrp_config.specs.declared.tables.PartitionTable.{PartitionTable}
 use Rattle.frames.specs.declared.body.Body.{Body}
 use Rattle.frames.specs.declared.body.Body.TheVariants.{Promise, Trimmed, TrimTo, AskCheckpoint, HaveCheckpoint, Gone, Safe}
@@ -16,16 +16,16 @@ use Rattle.vote_state.specs.State.{State, trim_at}
 use Rattle.quorums.specs.Groups.{Has}
 use Rattle.checkpoint.specs.Checks.{Checkpoint}
 use Rattle.plain_model.specs.Tuples.{round_sizes, is_tuple_of, instances}
-use Rattle.protocol.specs.Lines.{Line}
+use Rattle.protocol.specs.Lines.{Line, Chose}
 use Rattle.protocol.specs.Parts.{Ring, Round}
 use Rattle.protocol.specs.Opening.{partition_of}
 use Rattle.protocol.specs.Rings.{subscribers_of}
 use Rattle.protocol.specs.Learner.{value_in}
 use Rattle.protocol.specs.Recovery.{tuple_of_newest}
 use Rattle.protocol.specs.Node.{RingPart, Stage, Recovering, Ready, Choice, Service, Acting, View, Stepped}
-use Rattle.faithful.specs.Scanners.{Begun, Restored, past, touches, tuples_told, life, up_epoch, attempting, unchosen, chosen, before_begin, before_attempt, told, begun, Reaches, some_reaches, position, book}
+use Rattle.faithful.specs.Scanners.{Begun, Restored, past, touches, tuples_told, life, up_epoch, attempting, unchosen, chosen, before_begin, before_attempt, told, begun, entry_of, Reaches, some_reaches, position, book}
 use Rattle.faithful.specs.Answers.{AreDifferent}
-use Rattle.faithful.specs.Rules.{AllKnown, BySkips, AreFaithful, AllHaveTold}
+use Rattle.faithful.specs.Rules.{AllKnown, BySkips, Chooses, IsFaithfulLine, AreFaithful, AllHaveTold}
 
 -- ---- the deployment
 
@@ -49,6 +49,22 @@ IsCovered c lines ring inst = (inst ≡ 0) ⊎ AllHaveTold lines ring inst (subs
 -- each trim of a state is
 abbrev pub AreCovered : Config → List Line → State → Type 0
 AreCovered c lines s = (ring : RingId) → IsCovered c lines ring (trim_at s ring)
+
+-- a printed tuple reaches all that is covered, of each of its rings
+abbrev pub ReachesCovered : Config → List Line → List RingId → List ℕ → Type 0
+ReachesCovered c lines rings printed = (ring : RingId) (inst : ℕ) → has_ring rings ring.0 ≡ true → IsCovered c lines ring inst → inst ≤ entry_of rings ring printed
+
+-- ---- lines
+
+-- a line is right: it meets its rule, and a choice reaches all that was covered when its attempt began
+abbrev pub IsRightLine : Config → List Line → Line → Type 0
+IsRightLine c before (Chose node epoch attempt tuple from) = (rule : Chooses c before node epoch attempt tuple from) × ReachesCovered c rule.earlier rule.partition.rings tuple
+IsRightLine c before other = IsFaithfulLine c before other
+
+-- all of them
+abbrev pub AreRight : Config → List Line → Type 0
+AreRight c [] = Unit {0}
+AreRight c (l ∷ before) = IsRightLine c before l × AreRight c before
 
 -- ---- frames
 
@@ -211,7 +227,7 @@ IsOf x l = (other : ℕ) → (x.0 ≡ other → ⊥) → touches other l ≡ fal
 pub record DoneLines (c : Config) (before lines : List Line) (a : Acting) : Type 0 where
   pub printed : past before a.lines ≡ lines
   pub own : AllByRecursion (IsOf a.view.id) a.lines
-  pub faithful : AreFaithful c lines
+  pub right : AreRight c lines
   pub known : KnownLines c lines
   pub frames : AllByRecursion (IsSaid c lines) a.frames
   pub replies : AllByRecursion (IsSaid c lines) a.replies
@@ -232,7 +248,7 @@ pub record AfterLines (c : Config) (before : List Line) (a : Acting) : Type 0 wh
 pub record StepLines (c : Config) (before lines : List Line) (x : NodeId) (did : Stepped) : Type 0 where
   pub printed : past before did.lines ≡ lines
   pub own : AllByRecursion (IsOf x) did.lines
-  pub faithful : AreFaithful c lines
+  pub right : AreRight c lines
   pub known : KnownLines c lines
   pub frames : AllByRecursion (IsSaid c lines) did.frames
   pub parts : AllByRecursion (PartLines lines) did.view.parts
@@ -240,7 +256,7 @@ pub record StepLines (c : Config) (before lines : List Line) (x : NodeId) (did :
 
 -- between two steps
 pub record ViewLines (c : Config) (lines : List Line) (view : View) : Type 0 where
-  pub faithful : AreFaithful c lines
+  pub right : AreRight c lines
   pub known : KnownLines c lines
   pub parts : AllByRecursion (PartLines lines) view.parts
   pub replica : ReplicaLines c lines view.id view.journal.state.epoch view.checks.newest view.service

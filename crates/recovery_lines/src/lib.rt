@@ -24,14 +24,18 @@ ghost use Rattle.protocol.specs.Step.{behind};
 ghost use Rattle.protocol.specs.Tick.{saves_first};
 ghost use Rattle.faithful.specs.Scanners.{Reaches, before_attempt, told};
 ghost use Rattle.faithful.specs.Rules.{IsReached};
-ghost use Rattle.recovery_lines.specs.Ties.{ActLines, AfterLines, AttemptLines, IsAnswer, IsFit, KeptLines, OwnLines, ServiceLines, StageLines, StepLines, ViewLines, newest_of};
+ghost use Rattle.recovery_lines.specs.Ties.{ActLines, AfterLines, AttemptLines, IsAnswer, IsFit, KeptLines, OwnLines, ReachesCovered, ServiceLines, StageLines, StepLines, ViewLines, newest_of};
 
 /// A tuple at or past all answers of an attempt that a recovery quorum has answered reaches each trim whose line stands before
-/// the attempt's begin line: a trim quorum told an entry that reaches the trim by then, and one of these replicas answered since.
+/// the attempt's begin line, and all that the lines before it cover: a trim quorum told an entry that reaches it by then, and one
+/// of these replicas answered since.
 pub fn choices_pass_trims()
-    ensures { (c : Config) → IsFit c → (lines : List Line) (x : NodeId) (epoch : ℕ) (newest : Option Checkpoint) (p : PartitionTable) → Has c.partitions p
+    ensures lines { (c : Config) → IsFit c → (lines : List Line) (x : NodeId) (epoch : ℕ) (newest : Option Checkpoint) (p : PartitionTable) → Has c.partitions p
         → (number : ℕ) (answers : List (NodeId × List (RingId × ℕ))) (ties : AttemptLines c lines x epoch newest p number answers) → p.recovery_quorum ≤ length answers
         → (best : List ℕ) → AllByRecursion (λ (answer : NodeId × List (RingId × ℕ)). Reaches best (instances answer.1)) answers → AllByRecursion (IsReached p.rings best) ties.earlier }
+    ensures covered { (c : Config) → IsFit c → (lines : List Line) (x : NodeId) (epoch : ℕ) (newest : Option Checkpoint) (p : PartitionTable) → Has c.partitions p
+        → (number : ℕ) (answers : List (NodeId × List (RingId × ℕ))) (ties : AttemptLines c lines x epoch newest p number answers) → p.recovery_quorum ≤ length answers
+        → (best : List ℕ) → AllByRecursion (λ (answer : NodeId × List (RingId × ℕ)). Reaches best (instances answer.1)) answers → ReachesCovered c ties.earlier p.rings best }
 {}
 
 /// The merge takes place after place; an attempt begins; one begins since the merge waits below a trim; an attempt has a tick.

@@ -28,10 +28,9 @@ use Rattle.protocol.specs.Node.{Acting, RingPart, Service, with_part_in, with_pa
 use Rattle.protocol.specs.Learning.{with_did}
 use Rattle.protocol.specs.Merging.{merges}
 use Rattle.faithful.specs.Scanners.{past, touches, or_else, told, learned_by, book}
-use Rattle.faithful.specs.Rules.{IsFaithfulLine, AreFaithful}
 use Rattle.step_lines.specs.Dids.{IsPlain, DidTold, AllTold, Onward}
 use Rattle.step_lines.proofs.Onward.{put_rings}
-use Rattle.recovery_lines.specs.Ties.{IsFit, IsSaid, PartLines, CurrentLines, KnownLines, KeptLines, ReplicaLines, ActLines, AfterLines, StepLines, IsOf, AreCovered, IsCovered, PartTold}
+use Rattle.recovery_lines.specs.Ties.{IsFit, IsRightLine, AreRight, IsSaid, PartLines, CurrentLines, KnownLines, KeptLines, ReplicaLines, ActLines, AfterLines, StepLines, IsOf, AreCovered, IsCovered, PartTold}
 use Rattle.faithful.proofs.Growing.{past_more, book_more}
 use Rattle.faithful.proofs.Quorum.{appended, mapped}
 use Rattle.recovery_lines.proofs.More.{IsSaid-more, PartLines-more, KnownLines-more, ReplicaLines-quiet, KeptLines-same, quiet_own, AllHaveTold-more}
@@ -61,7 +60,7 @@ plain_quiet c lines (InstanceLimit node ring) h x = refl
 plain_quiet c lines (Learn node ring lo hi value) h x = refl
 plain_quiet c lines other h x = absurd h
 
-plain_rule : (c : Config) (lines : List Line) (l : Line) → IsPlain c lines l → IsFaithfulLine c lines l
+plain_rule : (c : Config) (lines : List Line) (l : Line) → IsPlain c lines l → IsRightLine c lines l
 plain_rule c lines (Trim node ring inst) h = h
 plain_rule c lines (BallotLimit node ring) h = tt
 plain_rule c lines (InstanceLimit node ring) h = tt
@@ -144,7 +143,7 @@ module _ (c : Config) (before lines : List Line) (a : Acting) (ties : ActLines c
     done = record {
       printed = past_more before a.lines did.lines ∙ ap (λ (ls : List Line). past ls did.lines) ties.done.printed;
       own = appended (IsOf a.view.id) a.lines did.lines ties.done.own (mapped (IsPlain c lines) (IsOf a.view.id) (λ l p other ne. plain_quiet c lines l p other) did.lines plain);
-      faithful = plain_many c (AreFaithful c) (λ l ls p f. (plain_rule c ls l p, f)) did.lines lines plain ties.done.faithful;
+      right = plain_many c (AreRight c) (λ l ls p f. (plain_rule c ls l p, f)) did.lines lines plain ties.done.right;
       known = plain_many c (KnownLines c) (λ l ls p k. KnownLines-more c l ls (λ r q t e replica fits h. absurd (true≢false (sym e ∙ plain_quiet c ls l p r.0))) k) did.lines lines plain ties.done.known;
       frames = appended (IsSaid c (past lines did.lines)) a.frames did.frames (frames_still c did.lines lines a.frames ties.done.frames) (frames_still c did.lines lines did.frames frames);
       replies = frames_still c did.lines lines a.replies ties.done.replies;
@@ -174,7 +173,7 @@ module _ (c : Config) (before lines : List Line) (a : Acting) (ties : ActLines c
     done = record {
       printed = past_more before a.lines (l ∷ []) ∙ ap (λ (ls : List Line). l ∷ ls) ties.done.printed;
       own = appended (IsOf a.view.id) a.lines (l ∷ []) ties.done.own ((λ other ne. refl), tt);
-      faithful = (tt, ties.done.faithful);
+      right = (tt, ties.done.right);
       known = KnownLines-more c l lines (λ r p t e replica fits h. absurd (true≢false (sym e))) ties.done.known;
       frames = mapped (IsSaid c lines) (IsSaid c (l ∷ lines)) (IsSaid-more c l lines) a.frames ties.done.frames;
       replies = mapped (IsSaid c lines) (IsSaid c (l ∷ lines)) (IsSaid-more c l lines) a.replies ties.done.replies;
@@ -222,7 +221,7 @@ module _ (c : Config) (before lines : List Line) (a : Acting) (ties : ActLines c
     done = record {
       printed = ties.done.printed;
       own = ties.done.own;
-      faithful = ties.done.faithful;
+      right = ties.done.right;
       known = ties.done.known;
       frames = ties.done.frames;
       replies = ties.done.replies;
@@ -235,7 +234,7 @@ module _ (c : Config) (before lines : List Line) (a : Acting) (ties : ActLines c
   finished_lines epoch = record {
     printed = ties.done.printed;
     own = ties.done.own;
-    faithful = ties.done.faithful;
+    right = ties.done.right;
     known = ties.done.known;
     frames = appended (IsSaid c lines) a.frames a.replies ties.done.frames ties.done.replies;
     parts = ties.done.parts;

@@ -261,7 +261,7 @@ module _ (c : Config) (ring : Ring) (before : List Line) where
                 done = record {
                   printed = ties.done.printed;
                   own = ties.done.own;
-                  faithful = ties.done.faithful;
+                  right = ties.done.right;
                   known = ties.done.known;
                   frames = ties.done.frames;
                   replies = ties.done.replies;

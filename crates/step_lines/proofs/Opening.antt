@@ -18,8 +18,7 @@ use Rattle.protocol.specs.Rings.{ring_of, is_member}
 use Rattle.protocol.specs.Opening.{partition_of, part_of_ring, parts_of, view_of, begins_first, opened}
 use Rattle.protocol.specs.Node.{Acting, Service, Recovering, begun_with, finished}
 use Rattle.protocol.specs.Recovery.{begins}
-use Rattle.faithful.specs.Rules.{AreFaithful}
-use Rattle.recovery_lines.specs.Ties.{IsFit, IsPlaced, AreCovered, PartTold, PartLines, KnownLines, KeptLines, OwnLines, DoneLines, AfterLines, StepLines, rings_in}
+use Rattle.recovery_lines.specs.Ties.{IsFit, IsPlaced, AreRight, AreCovered, PartTold, PartLines, KnownLines, KeptLines, OwnLines, DoneLines, AfterLines, StepLines, rings_in}
 use Rattle.recovery_lines.proofs.More.{KnownLines-more}
 use Rattle.recovery_lines.proofs.Beginning.{next_begins}
 use Rattle.recovery_lines.proofs.Merging.{merged_all}
@@ -80,15 +79,15 @@ module _ (c : Config) (fit : IsFit c) (lines : List Line) (id : NodeId) (journal
   opened_left covered = finished_left c (Up id (epoch + 1) ∷ lines) (begun_with (view_of c id journal checks)) (told_now covered) kept_now (begins_first c (partition_of c.partitions id) (begun_with (view_of c id journal checks)))
       (begins_onward_first (Up id (epoch + 1) ∷ lines) (partition_of c.partitions id))
 
-  pub opened_lines : AreFaithful c lines → KnownLines c lines → AreCovered c (Up id (epoch + 1) ∷ lines) journal.state → (new : List Line) × StepLines c (Up id (epoch + 1) ∷ lines) new id (opened c id journal checks)
+  pub opened_lines : AreRight c lines → KnownLines c lines → AreCovered c (Up id (epoch + 1) ∷ lines) journal.state → (new : List Line) × StepLines c (Up id (epoch + 1) ∷ lines) new id (opened c id journal checks)
   unfolding opened begins
-  opened_lines faithful known covered = by_partition (partition_of c.partitions id) refl kept
+  opened_lines right known covered = by_partition (partition_of c.partitions id) refl kept
     where
       done : DoneLines c (Up id (epoch + 1) ∷ lines) (Up id (epoch + 1) ∷ lines) (begun_with (view_of c id journal checks))
       done = record {
         printed = refl;
         own = tt;
-        faithful = (tt, faithful);
+        right = (tt, right);
         known = KnownLines-more c (Up id (epoch + 1)) lines (λ r p k e replica fits h. absurd h) known;
         frames = tt;
         replies = tt;

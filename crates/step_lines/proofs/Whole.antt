@@ -55,7 +55,7 @@ module _ (c : Config) (fit : IsFit c) (lines : List Line) (view : View) (ties : 
   on_told link beat = record { parts = parts; trims = covered; epoch = refl }
 
   on_lines : (link : Link) (beat : ℕ) → ActLines c lines lines (begun_with (record view { link = link; beat = beat }))
-  on_lines link beat = record { done = record { printed = refl; own = tt; faithful = ties.faithful; known = ties.known; frames = tt; replies = tt; parts = ties.parts }; replica = ties.replica }
+  on_lines link beat = record { done = record { printed = refl; own = tt; right = ties.right; known = ties.known; frames = tt; replies = tt; parts = ties.parts }; replica = ties.replica }
 
   -- what a step leaves, and its lines
   record Whole (did : Stepped) : Type 0 where
@@ -102,7 +102,7 @@ module _ (c : Config) (fit : IsFit c) (lines : List Line) (view : View) (ties : 
   compacted_whole : Whole (compacts view)
   compacted_whole = record {
     left = record { id = refl; rings_stay = refl; parts = parts; covered = covered; kept = kept };
-    right = λ all. (lines, record { printed = refl; own = tt; faithful = ties.faithful; known = ties.known; frames = tt; parts = ties.parts; replica = ties.replica });
+    right = λ all. (lines, record { printed = refl; own = tt; right = ties.right; known = ties.known; frames = tt; parts = ties.parts; replica = ties.replica });
   }
 
   beaten_whole : Whole (finished (rebases (beats c view)))

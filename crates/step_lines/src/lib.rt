@@ -16,13 +16,13 @@ ghost use Rattle.protocol.specs.Node.{Event, View};
 ghost use Rattle.protocol.specs.Opening.{opened, partition_of, parts_of};
 ghost use Rattle.protocol.specs.Step.{step};
 ghost use Rattle.faithful.specs.Scanners.{past};
-ghost use Rattle.faithful.specs.Rules.{AreFaithful};
-ghost use Rattle.recovery_lines.specs.Ties.{AreCovered, IsFit, IsPlaced, KnownLines, PartTold, StepLines, ViewLines, rings_in};
+ghost use Rattle.recovery_lines.specs.Ties.{AreCovered, AreRight, IsFit, IsPlaced, KnownLines, PartTold, StepLines, ViewLines, rings_in};
 ghost use Rattle.step_lines.specs.Dids.{AllAgree, EventSaid, KeptFor, LeftTold};
 
 /// A step on an event that was said. Whether its work is done or stopped, the node and its rings stay, each trim that it keeps
 /// is covered by what was told before the step, and its newest checkpoint reaches all that it told. Where each of its learn lines
-/// agrees with the book before it, all its lines meet their rules, and all that it sends, learns and keeps is tied to them.
+/// agrees with the book before it, all its lines meet their rules, each choice reaches all that was covered when its attempt began,
+/// and all that it sends, learns and keeps is tied to them.
 pub fn steps()
     ensures left { (c : Config) → IsFit c → (lines : List Line) (view : View) → ViewLines c lines view → AllByRecursion (IsPlaced c view.id) (rings_in view.parts)
         → AllByRecursion (PartTold c lines) view.parts → AreCovered c lines view.journal.state → (event : Event) → EventSaid c lines view.id event
@@ -39,6 +39,6 @@ pub fn openings()
         → KeptFor c lines id epoch checks.newest (partition_of c.partitions id) → AreCovered c (Up id (epoch + 1) ∷ lines) journal.state
         → LeftTold c (Up id (epoch + 1) ∷ lines) id (rings_in (parts_of c id journal.state c.rings)) (opened c id journal checks) }
     ensures right { (c : Config) → IsFit c → (lines : List Line) (id : NodeId) (journal : Journal) (checks : Checks) (epoch : ℕ) → journal.state.epoch ≡ epoch + 1
-        → KeptFor c lines id epoch checks.newest (partition_of c.partitions id) → AreFaithful c lines → KnownLines c lines → AreCovered c (Up id (epoch + 1) ∷ lines) journal.state
+        → KeptFor c lines id epoch checks.newest (partition_of c.partitions id) → AreRight c lines → KnownLines c lines → AreCovered c (Up id (epoch + 1) ∷ lines) journal.state
         → (new : List Line) × StepLines c (Up id (epoch + 1) ∷ lines) new id (opened c id journal checks) }
 {}
