@@ -41,11 +41,7 @@ pub fn read_command(alloc: Global, words: &mut Words<'_>) -> Result<Command, Tex
 
 // The commands on keys.
 #[tactic(auto, unfolding(crate::specs::Reading::commands_on_keys))]
-fn read_on_keys(
-    alloc: Global,
-    word: &[u8],
-    words: &mut Words<'_>,
-) -> Result<Command, TextFault>
+fn read_on_keys(alloc: Global, word: &[u8], words: &mut Words<'_>) -> Result<Command, TextFault>
     ensures { Reads (λ c. c) (by_key NoWord commands_on_keys (word.now ∷ words.old)) result words.new }
 {
     if word == b"get".as_slice() {

@@ -8,6 +8,7 @@ mod fault;
 mod fields;
 mod kinds;
 mod reading;
+mod rows;
 mod words;
 mod writing;
 
@@ -15,6 +16,7 @@ pub use asking::read_ask;
 pub use event::{Schedule, ScheduleEvent};
 pub use fault::{FaultKind, ScheduleFault};
 pub use reading::read;
+pub use rows::{events_of_each_kind, first_faults, texts_of_clients};
 pub use writing::write;
 
 #[cfg(test)]
