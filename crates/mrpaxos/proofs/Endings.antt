@@ -21,7 +21,7 @@ use Rattle.mrpaxos.specs.declared.status.Status.{Status}
 use Rattle.mrpaxos.specs.declared.status.Status.TheVariants.{Done, Usage, Config, Input, Source, Sink, Memory}
 use Rattle.mrpaxos.specs.declared.status.InputFault.TheVariants as input
 use Rattle.mrpaxos.specs.declared.status.Which.TheVariants as which
-use Rattle.mrpaxos.specs.Top.{IsReplay, Intake, Output, IsUnread, IsRead, HasFailed, IsCutShort, Judged, Entered, IsConfigured, Configured, Refuses, Ends, Answers}
+use Rattle.mrpaxos.specs.Top.{IsReplay, Intake, Output, IsUnread, IsRead, HasFailed, IsCutShort, Judged, Entered, IsConfigured, Configured, Refuses, RefusesRead, Ends, Answers}
 
 -- ---- the words
 
@@ -182,13 +182,13 @@ by_status Done words config intake out conf text says is told said =
     let q = p.2 in
     let r = q.3 in
     let front : take 67108865 text ≡ r.0 = front_of 67108865 intake r.0 text r.1 said in
-    inr (q.0, q.1, configures_all config p.0 conf q.0 q.1 p.1 told q.2, (r.2.0, ap (schedule_of q.0) front ∙ schedule_read q.0 r.0 r.2.0 r.2.1.schedule))
+    inr (q.0, q.1, configures_all config p.0 conf q.0 q.1 p.1 told q.2, (r.2.0, ap (schedule_of q.0) front ∙ schedule_read q.0 r.0 r.2.0 r.2.1.schedule, r.2.1.built))
 by_status (Input (input.Schedule f)) words config intake out conf text says is told said =
     let p = says.1 in
     let q = p.2 in
     let r = q.3 in
     let front : take 67108865 text ≡ r.0 = front_of 67108865 intake r.0 text r.1 said in
-    inr (q.0, q.1, configures_all config p.0 conf q.0 q.1 p.1 told q.2, ap (schedule_of q.0) front ∙ r.2.0)
+    inr (q.0, q.1, configures_all config p.0 conf q.0 q.1 p.1 told q.2, subst (λ (l : List ℕ). RefusesRead (schedule_of q.0 l) f) (sym front) r.2.0)
 by_status (Source w) words config intake out conf text says is told said = inl tt
 by_status Sink words config intake out conf text says is told said = inl tt
 by_status Memory words config intake out conf text says is told said = inl tt

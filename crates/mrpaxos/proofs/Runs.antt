@@ -12,6 +12,10 @@ use Rattle.transcript.specs.declared.line.Line.{Line}
 use Rattle.transcript.specs.declared.line.Line.TheVariants.{End}
 use Rattle.transcript.specs.Spelling.{line_bytes, lines_text}
 use Rattle.schedule.specs.declared.event.ScheduleEvent.{ScheduleEvent}
+use Rattle.schedule.specs.declared.event.ScheduleEvent.TheVariants.{Ask, Flow, Lose, Deliver, List as Shown, TickAll, TickNode, TickClient, Lead, Crash, Restart, Fuse, Fail, FailRead, Show}
+use Rattle.schedule.specs.Spelling.{IsEvent}
+use Rattle.schedule.proofs.CommandLaws.{asked_is_command}
+use Rattle.mrp_config.specs.Config.{Config}
 use Rattle.mrp_config.specs.declared.tables.RingTable.{RingTable}
 use Rattle.world.specs.System.{World, MayHappen, start, happens, lines_from, trace}
 
@@ -103,3 +107,26 @@ none_at items i all = grind (arith, common_steps)
 
 pub valid_after : (event : ScheduleEvent) (rest later : List ScheduleEvent) → rest ≡ event ∷ later → AllByRecursion MayHappen rest → MayHappen event × AllByRecursion MayHappen later
 valid_after event rest later is all = subst (λ (l : List ScheduleEvent). AllByRecursion MayHappen l) is all
+
+-- ---- what a schedule may make happen
+
+may_happen : (config : Config) (event : ScheduleEvent) → IsEvent config event → MayHappen event
+may_happen config (Ask client command) is = asked_is_command command is.0.1
+may_happen config (Flow count) is = tt
+may_happen config (Lose count) is = tt
+may_happen config (Deliver frame) is = tt
+may_happen config (Shown frame) is = tt
+may_happen config TickAll is = tt
+may_happen config (TickNode node) is = tt
+may_happen config (TickClient client) is = tt
+may_happen config (Lead node ring) is = tt
+may_happen config (Crash node) is = tt
+may_happen config (Restart node image) is = tt
+may_happen config (Fuse node calls) is = tt
+may_happen config (Fail node calls) is = tt
+may_happen config (FailRead node calls) is = tt
+may_happen config (Show node) is = tt
+
+pub all_may_happen : (config : Config) (events : List ScheduleEvent) → AllByRecursion (IsEvent config) events → AllByRecursion MayHappen events
+all_may_happen config [] are = tt
+all_may_happen config (event ∷ events) are = (may_happen config event are.0, all_may_happen config events are.1)

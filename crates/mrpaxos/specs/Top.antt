@@ -1,5 +1,5 @@
 -- What each status of the program says of the words, the configuration, the input and the output.
-use Rattle.std.specs.Prelude.{ℕ, ◌≡◌, ◌≤◌, ◌+◌, ◌⊎◌, List, [], ◌∷◌, length, codes, take, Option, Ok, Err}
+use Rattle.std.specs.Prelude.{ℕ, ◌≡◌, ◌≤◌, ◌+◌, ◌⊎◌, List, [], ◌∷◌, length, codes, take, Option, Some, None, Result, Ok, Err}
 use Rattle.std.specs.Io.KnownBytes.{Appends, Consumes, IsAtEnd, Keeps}
 use Rattle.outside.specs.Counts.{rise}
 use Rattle.mrp_config.specs.Config.{Config as Deployed}
@@ -14,7 +14,7 @@ use Rattle.schedule.specs.declared.fault.FaultKind.{FaultKind}
 use Rattle.schedule.specs.declared.fault.FaultKind.TheVariants as kind
 use Rattle.schedule.specs.Spelling.{IsSchedule}
 use Rattle.schedule.specs.Reading.{schedule_of}
-use Rattle.world.specs.Built.{IsBuilt, IsBuiltRing}
+use Rattle.world.specs.Built.{IsBuilt, IsBuiltRing, unbuilt_at}
 use Rattle.world.specs.Order.{KeepsRules}
 use Rattle.world.specs.System.{trace}
 use Rattle.mrpaxos.specs.declared.status.Status.{Status}
@@ -80,16 +80,32 @@ IsUntouched out = Keeps out.before out.after × (out.faults_after ≡ out.faults
 
 -- ---- a schedule over a ring
 
--- the bytes are the schedule of these events, and the sink took the text of its lines and nothing else
+-- the line of an event for which the step isn't built, at this index, is at fault by its word
+abbrev pub unbuilt_fault : ℕ → ScheduleFault
+unbuilt_fault index = record { line = index + 1; kind = kind.Word }
+
+-- a schedule in which the first event for which the step isn't built is at this index
+pub record IsUnbuilt (read : Result (List ScheduleEvent) ScheduleFault) (events : List ScheduleEvent) (index : ℕ) : Type 0 where
+  pub schedule : read ≡ Ok events
+  pub first : unbuilt_at events ≡ Some index
+
+-- why what reading a schedule gave is refused: its first line at fault, or the first event for which the step isn't built
+abbrev pub RefusesRead : Result (List ScheduleEvent) ScheduleFault → ScheduleFault → Type 0
+RefusesRead read fault = (read ≡ Err fault)
+    ⊎ ((events : List ScheduleEvent) × (index : ℕ) × IsUnbuilt read events index × (fault ≡ unbuilt_fault index))
+
+-- the bytes are the schedule of these events, for each of which the step is built, and the sink took the text of its lines and nothing else
 pub record Replayed (config : Deployed) (ring : RingTable) (bytes : List ℕ) (out : Output) (events : List ScheduleEvent) : Type 0 where
   pub schedule : IsSchedule config bytes events
+  pub built : unbuilt_at events ≡ None
   pub rules : KeepsRules ring (trace ring events)
   pub text : Appends out.before out.after (lines_text (trace ring events))
   pub faults : out.faults_after ≡ out.faults_before
 
--- the bytes are the schedule of these events, and the sink took a front of the text of its lines
+-- the bytes are the schedule of these events, for each of which the step is built, and the sink took a front of the text of its lines
 pub record Stopped (config : Deployed) (ring : RingTable) (bytes : List ℕ) (out : Output) (events : List ScheduleEvent) (n : ℕ) : Type 0 where
   pub schedule : IsSchedule config bytes events
+  pub built : unbuilt_at events ≡ None
   pub rules : KeepsRules ring (trace ring events)
   pub front : Appends out.before out.after (take n (lines_text (trace ring events)))
 
@@ -97,7 +113,7 @@ pub record Stopped (config : Deployed) (ring : RingTable) (bytes : List ℕ) (ou
 -- front of the lines.
 abbrev pub Judged : Status → Deployed → RingTable → List ℕ → Output → Type 0
 Judged Done config ring bytes out = (events : List ScheduleEvent) × Replayed config ring bytes out events
-Judged (Input (input.Schedule fault)) config ring bytes out = (schedule_of config bytes ≡ Err fault) × IsUntouched out
+Judged (Input (input.Schedule fault)) config ring bytes out = RefusesRead (schedule_of config bytes) fault × IsUntouched out
 Judged Sink config ring bytes out =
     (events : List ScheduleEvent) × (n : ℕ) × Stopped config ring bytes out events n × (out.faults_after ≡ rise out.faults_before)
 Judged Memory config ring bytes out = IsUntouched out
@@ -161,9 +177,9 @@ Ends status words config input out = IsReplay words × ((bytes : List ℕ) × Is
 abbrev pub IsAnswer : Status → List ℕ → List ℕ → Type 0
 IsAnswer (Config fault) conf text = Refuses conf fault
 IsAnswer (Input (input.Schedule fault)) conf text =
-    (config : Deployed) × (ring : RingTable) × IsConfigured conf config ring × (schedule_of config (take 67108865 text) ≡ Err fault)
+    (config : Deployed) × (ring : RingTable) × IsConfigured conf config ring × RefusesRead (schedule_of config (take 67108865 text)) fault
 IsAnswer Done conf text =
-    (config : Deployed) × (ring : RingTable) × IsConfigured conf config ring × ((events : List ScheduleEvent) × (schedule_of config (take 67108865 text) ≡ Ok events))
+    (config : Deployed) × (ring : RingTable) × IsConfigured conf config ring × ((events : List ScheduleEvent) × (schedule_of config (take 67108865 text) ≡ Ok events) × (unbuilt_at events ≡ None))
 IsAnswer other conf text = ⊥
 
 -- a call failed, or memory ran out

@@ -1,8 +1,10 @@
 //! The top call: words, configuration, input and output of the program.
 
-ghost use Rattle.std.specs.Prelude.{◌≡◌, ◌↔◌, IfSome, IsTrue, map, string_bytes};
+ghost use Rattle.std.specs.Prelude.{◌≡◌, ◌↔◌, ◌<◌, IfSome, IsTrue, map, string_bytes};
 ghost use Rattle.world.specs.Ring.{IsRing};
-ghost use Rattle.mrpaxos.specs.Top.{Ends, Configured, Entered, Judged, IsReplay, Answers, refused_of};
+ghost use Rattle.mrpaxos.specs.Top.{Ends, Configured, Entered, Judged, IsReplay, Answers, refused_of, unbuilt_fault};
+ghost use Rattle.mrpaxos.specs.declared.status.Status.TheVariants.{Input};
+ghost use Rattle.mrpaxos.specs.declared.status.InputFault.TheVariants.{Schedule as OfSchedule};
 
 use crate::replay::{ReplayFault, replay};
 use crate::status::{InputFault, Status, Which};
@@ -10,7 +12,7 @@ use mrp_config::{ConfigFault, Deployment, RingTable};
 use outside::{Refused, Sink, Source, read_front};
 use schedule::{FaultKind, ScheduleFault, read};
 use std::alloc::Global;
-use world::built_ring;
+use world::{built_ring, first_unbuilt};
 
 // One byte more than a configuration may have, and than a schedule may have.
 const CONFIG: usize = 1_048_577;
@@ -138,11 +140,24 @@ fn replay_bytes<O: Sink>(
         Ok(schedule) => schedule,
         Err(fault) => return refused(fault),
     };
+    if let Some(index) = first_unbuilt(&schedule) {
+        return unbuilt(index);
+    }
     match replay(alloc, ring, &schedule, out) {
         Ok(()) => Status::Done,
         Err(ReplayFault::Sink) => Status::Sink,
         Err(ReplayFault::Memory) => Status::Memory,
     }
+}
+
+// The step isn't built for the event at this index.
+fn unbuilt(index: usize) -> Status
+    requires { index < 1048576 }
+    ensures { result ≡ Input (OfSchedule (unbuilt_fault index)) }
+{
+    let line = index as u32 + 1;
+    let kind = FaultKind::Word;
+    Status::Input(InputFault::Schedule(ScheduleFault { line, kind }))
 }
 
 // Want of memory is no fault of the input.

@@ -1,241 +1,238 @@
 -- An event is read as it is spelled, and what is read is spelled so.
-use Rattle.std.proofs.Common.{arith, lit<, ◌≡◌, ◌≤◌, ◌<◌, ℕ, ◌^◌, List, [], ◌∷◌, length, Result, Ok, Err, refl, sym, ap, ◌∙◌, subst, nat_lt, if◌then◌else◌, Bool, true, false, codes}
-use Rattle.std.specs.Prelude.{is_some}
-use Rattle.std.proofs.lemmas.Slice.Eq.{bytes_eq-Decides}
-use Rattle.std.specs.Str.{bytes_eq}
+use Rattle.std.proofs.Common.{arith, lit<, ◌≡◌, ◌<◌, ℕ, ◌^◌, List, [], ◌∷◌, ◌++◌, refl, sym, ap, ◌∙◌, codes, Ok, Err}
+use Rattle.std.specs.Prelude.{Result}
+use Rattle.std.specs.List.{AllByRecursion}
 use Rattle.std.specs.Fmt.{decimal}
-use Rattle.hex.specs.Hex.{IsBytes}
-use Rattle.text_lines.specs.Text.{hex_text}
+use Rattle.hex.specs.Hex.{encode_lower}
 use Rattle.text_lines.specs.declared.fault.TextFault.{TextFault}
-use Rattle.text_lines.specs.declared.fault.TextFault.TheVariants.{Word, Range}
-use Rattle.text_lines.specs.Reading.{keyword_at, number_at, number_within, hex_at, end_at}
-use Rattle.text_lines.proofs.Inverse.{bound, then_was, else_was, ok_is, number_of_decimal, within_decimal, hex_of_text}
-use Rattle.text_lines.proofs.WordsWere.{keyword_was, number_was, number_within_was, hex_was, end_was}
-use Rattle.mrp_types.specs.declared.id.ClientId.{ClientId}
-use Rattle.mrp_types.specs.declared.id.LogId.{LogId}
-use Rattle.command_codec.specs.declared.command.Command.TheVariants.{Append}
-use Rattle.mrp_config.specs.Config.{Config, client_at}
+use Rattle.text_lines.specs.declared.fault.TextFault.TheVariants.{Word, Range, Left}
+use Rattle.text_lines.specs.Split.{words_of}
+use Rattle.text_lines.specs.Text.{joined}
+use Rattle.text_lines.specs.Words.{both as both_readers, shown, tested}
+use Rattle.text_lines.proofs.Laws.{Lacks, words_of_joined}
+use Rattle.text_lines.proofs.WordLaws.{Words, Took, Entry, AreEntries, alone, spell_both, one_words, two, tested_words, IsTested, IsBoth, viewed_was, given_was, shown_read, keyed_was, all_read, all_was, none_low, lacks_low}
+use Rattle.disk_model.specs.declared.area.Image.{Image}
+use Rattle.disk_model.specs.declared.area.Image.TheVariants.{Old, New, Fill}
+use Rattle.mrp_config.specs.Config.{Config}
 use Rattle.schedule.specs.declared.event.ScheduleEvent.{ScheduleEvent}
-use Rattle.schedule.specs.declared.event.ScheduleEvent.TheVariants.{Ask, Flow, Deliver, Lose, List as Shown}
-use Rattle.schedule.specs.Spelling.{event_words, IsClient, IsAppend, IsCount, IsEvent}
-use Rattle.schedule.specs.Reading.{client_of, value_of, ask_of, count_of, frame_of, event_with, event_of, is_routed}
-use Rattle.mrp_types.proofs.TestLemmas.{not_above, at_most}
+use Rattle.schedule.specs.declared.event.ScheduleEvent.TheVariants.{Ask, Flow, Lose, Deliver, List as Shown, TickAll, TickNode, TickClient, Lead, Crash, Restart, Fuse, Fail, FailRead, Show}
+use Rattle.schedule.specs.Fields.{is_client, is_node, can_lead}
+use Rattle.schedule.specs.Spelling.{event_words, command_words, image_words, IsWithin, IsClient, IsNode, IsAsked, IsImage, IsWorded}
+use Rattle.schedule.specs.Reading.{WordReader, within, any_number, client_word, node_word, byte_word, ask_at, flow_at, lose_at, deliver_at, list_at, ticks, tick_at, lead_at, crash_at, images, image_at, restart_at, calls_at, fuse_at, fail_at, failread_at, show_at, events_of_disks, events_of_nodes, kinds, event_at, event_in}
+use Rattle.schedule.proofs.FieldLaws.{known_number, byte}
+use Rattle.schedule.proofs.CommandLaws.{numbers, any_numbers, command_law}
+
+-- ---- words
+
+clients : (config : Config) → Words (client_word config) (alone decimal) (IsClient config)
+clients config = one_words _ _ _ (known_number (is_client config)) Word
+
+nodes : (config : Config) → Words (node_word config) (alone decimal) (IsNode config)
+nodes config = one_words _ _ _ (known_number (is_node config)) Word
+
+counts : Words (within 1 100000) (alone decimal) (IsWithin 1 100000)
+counts = numbers 1 100000 (lit< tt)
+
+abbrev pub byte_text : ℕ → List ℕ
+byte_text b = encode_lower (b ∷ [])
+
+bytes : Words byte_word (alone byte_text) (λ b. b < 256)
+bytes = one_words _ _ _ byte Word
+
+abbrev pub spell_two : ℕ × ℕ → List (List ℕ)
+spell_two x = (decimal x.0 ∷ []) ++ (decimal x.1 ∷ [])
+
+leads : (config : Config) → Words {E = TextFault} (tested Range (can_lead config) (both_readers (node_word config) (within 0 255))) spell_two (IsTested (can_lead config) (IsBoth (IsNode config) (IsWithin 0 255)))
+leads config = tested_words Range (can_lead config) _ _ _ (two (nodes config) (numbers 0 255 (lit< tt)))
+
+calls : (config : Config) → Words (calls_at config) (spell_both (alone decimal) (alone decimal)) (IsBoth (IsNode config) (IsWithin 0 1000))
+unfolding calls_at
+calls config = two (nodes config) (numbers 0 1000 (lit< tt))
+
+-- ---- images
+
+fills : Words {E = TextFault} (both_readers (within 0 1000000) byte_word) (spell_both (alone decimal) (alone byte_text)) (IsBoth (IsWithin 0 1000000) (λ b. b < 256))
+fills = two (numbers 0 1000000 (lit< tt)) bytes
+
+image_read : (image : Image) (rest : List (List ℕ)) → IsImage image → image_at (image_words image ++ rest) ≡ Ok (image, rest)
+unfolding image_at
+image_read Old rest is = refl
+image_read New rest is = refl
+image_read (Fill keep b) rest is = shown_read _ _ _ _ fills (keep, b) rest is
+
+image_entries : AreEntries image_words IsImage images
+image_entries = (
+  given_was (codes "old" ∷ []) Old image_words IsImage refl tt,
+  (
+    given_was (codes "new" ∷ []) New image_words IsImage refl tt,
+    (
+      viewed_was (codes "fill" ∷ []) _ _ _ (λ x. Fill x.0 x.1) image_words IsImage fills (record { spelled = λ a. refl; is = λ a is. is }),
+      tt,
+    ),
+  ),
+)
+
+image_was : (words : List (List ℕ)) (x : Image × List (List ℕ)) → image_at words ≡ Ok x → Took image_words IsImage words x
+unfolding image_at
+image_was words x h = keyed_was image_words IsImage Word images image_entries words x h
+
+image_lacks : (byte : ℕ) → byte < 44 → (image : Image) → IsImage image → AllByRecursion (Lacks byte) (image_words image)
+unfolding none_low
+image_lacks byte low Old is = (lacks_low byte low (codes "old") refl, tt)
+image_lacks byte low New is = (lacks_low byte low (codes "new") refl, tt)
+image_lacks byte low (Fill keep b) is = (lacks_low byte low (codes "fill") refl, fills.lacks byte low (keep, b) is)
+
+image_law : Words image_at image_words IsImage
+image_law = record { read = image_read; was = image_was; lacks = image_lacks }
 
 -- ---- what is spelled is read
 
-client_read : (config : Config) (client : ClientId) (rest : List (List ℕ)) → IsClient config client → client_of config (decimal client.0 ∷ rest) ≡ Ok (client, rest)
-unfolding client_of
-client_read config client rest is =
-    let most : client.0 ≤ 255 = omega (arith, is.fits) in
-    let known : is_some (client_at config.clients client.0) ≡ true = is.known in
-    rw (within_decimal client.0 0 255 rest (omega arith) most (lit< tt), known) refl
-
-value_read : (value : List ℕ) (rest : List (List ℕ)) → length value ≤ 2048 → IsBytes value → value_of (hex_text value ∷ rest) ≡ Ok (value, rest)
-unfolding value_of
-value_read value rest short are = rw (hex_of_text value are, not_above (length value) 2048 short) refl
-
-ask_read : (config : Config) (client : ClientId) (log : LogId) (value : List ℕ) → IsClient config client → IsAppend config log value →
-    ask_of config (decimal client.0 ∷ codes "append" ∷ decimal log.0 ∷ hex_text value ∷ []) ≡ Ok (Ask client (Append log value))
-unfolding ask_of
-ask_read config client log value known is =
-    let most : log.0 ≤ 63 = omega (arith, is.fits) in
-    rw (
-      client_read config client (codes "append" ∷ decimal log.0 ∷ hex_text value ∷ []) known,
-      within_decimal log.0 0 63 (hex_text value ∷ []) (omega arith) most (lit< tt),
-      value_read value [] is.short is.bytes,
-    ) refl
-
-count_read : (count : ℕ) → IsCount count → count_of (decimal count ∷ []) ≡ Ok count
-unfolding count_of
-count_read count is = rw (within_decimal count 1 100000 [] is.0 is.1 (lit< tt)) refl
-
-frame_read : (frame : ℕ) → frame < 2 ^ 64 → frame_of (decimal frame ∷ []) ≡ Ok frame
-unfolding frame_of
-frame_read frame fits = rw (number_of_decimal frame fits) refl
-
-pub event_read : (config : Config) (event : ScheduleEvent) → IsEvent config event → event_of config (event_words event) ≡ Ok event
-unfolding event_of
-event_read config (Ask client (Append log value)) is = ask_read config client log value is.0 is.1
-event_read config (Ask client other) is = absurd is.1
-event_read config (Flow count) is = rw (count_read count is) refl
-event_read config (Deliver frame) is = rw (frame_read frame is) refl
-event_read config (Lose count) is = rw (count_read count is) refl
-event_read config (Shown frame) is = rw (frame_read frame is) refl
-
-pub event_routed : (config : Config) (event : ScheduleEvent) → IsEvent config event → is_routed config event ≡ true
-event_routed config (Ask client (Append log value)) is = is.1.routed
-event_routed config (Ask client other) is = absurd is.1
-event_routed config (Flow count) is = refl
-event_routed config (Deliver frame) is = refl
-event_routed config (Lose count) is = refl
-event_routed config (Shown frame) is = refl
+event_read : (config : Config) (event : ScheduleEvent) (rest : List (List ℕ)) → IsWorded config event → event_at config (event_words event ++ rest) ≡ Ok (event, rest)
+unfolding event_at events_of_nodes events_of_disks ask_at flow_at lose_at deliver_at list_at tick_at lead_at crash_at restart_at fuse_at fail_at failread_at show_at
+event_read config (Ask client command) rest is = shown_read _ _ _ _ (two (clients config) command_law) (client.0, command) rest is
+event_read config (Flow count) rest is = shown_read _ _ _ _ counts count rest is
+event_read config (Lose count) rest is = shown_read _ _ _ _ counts count rest is
+event_read config (Deliver frame) rest is = shown_read _ _ _ _ any_numbers frame rest is
+event_read config (Shown frame) rest is = shown_read _ _ _ _ any_numbers frame rest is
+event_read config TickAll rest is = refl
+event_read config (TickNode node) rest is = shown_read _ _ _ _ (nodes config) node.0 rest is
+event_read config (TickClient client) rest is = shown_read _ _ _ _ (clients config) client.0 rest is
+event_read config (Lead node ring) rest is = shown_read _ _ _ _ (leads config) (node.0, ring.0) rest is
+event_read config (Crash node) rest is = shown_read _ _ _ _ (nodes config) node.0 rest is
+event_read config (Restart node image) rest is = shown_read _ _ _ _ (two (nodes config) image_law) (node.0, image) rest is
+event_read config (Fuse node n) rest is = shown_read _ _ _ _ (calls config) (node.0, n) rest is
+event_read config (Fail node n) rest is = shown_read _ _ _ _ (calls config) (node.0, n) rest is
+event_read config (FailRead node n) rest is = shown_read _ _ _ _ (calls config) (node.0, n) rest is
+event_read config (Show node) rest is = shown_read _ _ _ _ (nodes config) node.0 rest is
 
 -- ---- what is read is spelled so
 
-pub record ClientWas (config : Config) (words : List (List ℕ)) (x : ClientId × List (List ℕ)) : Type 0 where
-  pub spelled : words ≡ decimal x.0.0 ∷ x.1
-  pub is : IsClient config x.0
+-- what is read behind keys is spelled with them
+entry : (config : Config) {A : Type 0} (keys : List (List ℕ)) {fields : WordReader A} {spell : A → List (List ℕ)} {Is : A → Type 0} (view : A → ScheduleEvent) → Words fields spell Is
+    → ((a : A) → keys ++ spell a ≡ event_words (view a)) → ((a : A) → Is a → IsWorded config (view a)) → Entry event_words (IsWorded config) keys (shown view fields)
+entry config keys {fields = fields} {spell = spell} {Is = Is} view law spelled is =
+    viewed_was keys fields spell Is view event_words (IsWorded config) law (record { spelled = spelled; is = is })
 
-client_was : (config : Config) (words : List (List ℕ)) (x : ClientId × List (List ℕ)) → client_of config words ≡ Ok x → ClientWas config words x
-unfolding client_of
-client_was config words x h =
-    let one = bound (number_within 0 255 words) _ x h in
-    let n = one.0 in
-    let read : ClientId × List (List ℕ) = (record { 0 = n.0 }, n.1) in
-    let last = then_was (is_some (client_at config.clients n.0)) Range (Ok read) x one.2 in
-    let was = number_within_was 0 255 words n one.1 in
-    let known : is_some (client_at config.clients n.0) ≡ true = last.0 in
-    subst (λ (y : ClientId × List (List ℕ)). ClientWas config words y) (ok_is read x last.1) (record {
-      spelled = was.spelled;
-      is = record { fits = omega (arith, was.few); known = known };
-    })
+-- a tick, but for its first word
+abbrev pub tick_words : ScheduleEvent → List (List ℕ)
+tick_words TickAll = codes "all" ∷ []
+tick_words (TickNode node) = codes "node" ∷ decimal node.0 ∷ []
+tick_words (TickClient client) = codes "client" ∷ decimal client.0 ∷ []
+tick_words other = []
 
-pub record ValueWas (words : List (List ℕ)) (x : List ℕ × List (List ℕ)) : Type 0 where
-  pub spelled : words ≡ hex_text x.0 ∷ x.1
-  pub bytes : IsBytes x.0
-  pub short : length x.0 ≤ 2048
+abbrev pub IsTick : Config → ScheduleEvent → Type 0
+IsTick config TickAll = Unit {0}
+IsTick config (TickNode node) = IsNode config node.0
+IsTick config (TickClient client) = IsClient config client.0
+IsTick config other = ⊥
 
-value_was : (words : List (List ℕ)) (x : List ℕ × List (List ℕ)) → value_of words ≡ Ok x → ValueWas words x
-unfolding value_of
-value_was words x h =
-    let one = bound (hex_at words) _ x h in
-    let v = one.0 in
-    let last = else_was (nat_lt 2048 (length v.0)) Range (Ok v) x one.2 in
-    let was = hex_was words v one.1 in
-    let short : length v.0 ≤ 2048 = at_most (length v.0) 2048 last.0 in
-    subst (λ (y : List ℕ × List (List ℕ)). ValueWas words y) (ok_is v x last.1) (record {
-      spelled = was.spelled;
-      bytes = was.bytes;
-      short = short;
-    })
+tick_entries : (config : Config) → AreEntries tick_words (IsTick config) (ticks config)
+tick_entries config = (
+  given_was (codes "all" ∷ []) TickAll tick_words (IsTick config) refl tt,
+  (
+    viewed_was (codes "node" ∷ []) _ _ _ (λ n. TickNode (record { 0 = n })) tick_words (IsTick config) (nodes config) (record { spelled = λ a. refl; is = λ a is. is }),
+    (
+      viewed_was (codes "client" ∷ []) _ _ _ (λ n. TickClient (record { 0 = n })) tick_words (IsTick config) (clients config) (record { spelled = λ a. refl; is = λ a is. is }),
+      tt,
+    ),
+  ),
+)
 
--- the words were those of the event, and the event is one where it has a route
-pub record Was (config : Config) (words : List (List ℕ)) (event : ScheduleEvent) : Type 0 where
-  pub spelled : words ≡ event_words event
-  pub is : is_routed config event ≡ true → IsEvent config event
+tick_took : (config : Config) (words : List (List ℕ)) (event : ScheduleEvent) (rest : List (List ℕ)) → Took tick_words (IsTick config) words (event, rest) →
+    Took event_words (IsWorded config) (codes "tick" ∷ words) (event, rest)
+tick_took config words TickAll rest took = record { spelled = ap (λ (ws : List (List ℕ)). codes "tick" ∷ ws) took.spelled; is = took.is }
+tick_took config words (TickNode node) rest took = record { spelled = ap (λ (ws : List (List ℕ)). codes "tick" ∷ ws) took.spelled; is = took.is }
+tick_took config words (TickClient client) rest took = record { spelled = ap (λ (ws : List (List ℕ)). codes "tick" ∷ ws) took.spelled; is = took.is }
+tick_took config words (Ask client command) rest took = absurd took.is
+tick_took config words (Flow count) rest took = absurd took.is
+tick_took config words (Lose count) rest took = absurd took.is
+tick_took config words (Deliver frame) rest took = absurd took.is
+tick_took config words (Shown frame) rest took = absurd took.is
+tick_took config words (Lead node ring) rest took = absurd took.is
+tick_took config words (Crash node) rest took = absurd took.is
+tick_took config words (Restart node image) rest took = absurd took.is
+tick_took config words (Fuse node n) rest took = absurd took.is
+tick_took config words (Fail node n) rest took = absurd took.is
+tick_took config words (FailRead node n) rest took = absurd took.is
+tick_took config words (Show node) rest took = absurd took.is
 
-ask_was : (config : Config) (words : List (List ℕ)) (event : ScheduleEvent) → ask_of config words ≡ Ok event → Was config (codes "ask" ∷ words) event
-unfolding ask_of
-ask_was config words event h =
-    let one = bound (client_of config words) _ event h in
-    let client = one.0 in
-    let two = bound (keyword_at (codes "append") client.1) _ event one.2 in
-    let three = bound (number_within 0 63 two.0.1) _ event two.2 in
-    let log = three.0 in
-    let four = bound (value_of log.1) _ event three.2 in
-    let value = four.0 in
-    let five = bound (end_at value.1) _ event four.2 in
-    let known = client_was config words client one.1 in
-    let named = number_within_was 0 63 two.0.1 log three.1 in
-    let stored = value_was log.1 value four.1 in
-    let rest : client.1 ≡ codes "append" ∷ decimal log.0 ∷ hex_text value.0 ∷ [] =
-    keyword_was (codes "append") client.1 two.0 two.1
-    ∙ ap (λ (ws : List (List ℕ)). codes "append" ∷ ws) (named.spelled
-    ∙ ap (λ (ws : List (List ℕ)). decimal log.0 ∷ ws) (stored.spelled ∙ ap (λ (ws : List (List ℕ)). hex_text value.0 ∷ ws) (end_was value.1 five.0 five.1))) in
-    subst (λ (e : ScheduleEvent). Was config (codes "ask" ∷ words) e) (ok_is (Ask client.0 (Append (record { 0 = log.0 }) value.0)) event five.2) (record {
-      spelled = ap (λ (ws : List (List ℕ)). codes "ask" ∷ ws) (known.spelled ∙ ap (λ (ws : List (List ℕ)). decimal client.0.0 ∷ ws) rest);
-      is = λ routed. (known.is, record { fits = omega (arith, named.few); routed = routed; short = stored.short; bytes = stored.bytes });
-    })
+tick_entry : (config : Config) → Entry event_words (IsWorded config) (codes "tick" ∷ []) (tick_at config)
+unfolding tick_at
+tick_entry config words x h = tick_took config words x.0 x.1 (keyed_was tick_words (IsTick config) Word (ticks config) (tick_entries config) words x h)
 
-pub record CountWas (words : List (List ℕ)) (count : ℕ) : Type 0 where
-  pub spelled : words ≡ decimal count ∷ []
-  pub is : IsCount count
+disk_entries : (config : Config) → AreEntries event_words (IsWorded config) (events_of_disks config)
+unfolding events_of_disks fuse_at fail_at failread_at show_at
+disk_entries config = (
+  entry config (codes "fuse" ∷ []) _ (calls config) (λ a. refl) (λ a is. is),
+  (
+    entry config (codes "fail" ∷ []) _ (calls config) (λ a. refl) (λ a is. is),
+    (
+      entry config (codes "failread" ∷ []) _ (calls config) (λ a. refl) (λ a is. is),
+      (entry config (codes "show" ∷ []) _ (nodes config) (λ a. refl) (λ a is. is), tt),
+    ),
+  ),
+)
 
-count_was : (words : List (List ℕ)) (count : ℕ) → count_of words ≡ Ok count → CountWas words count
-unfolding count_of
-count_was words count h =
-    let one = bound (number_within 1 100000 words) _ count h in
-    let n = one.0 in
-    let two = bound (end_at n.1) _ count one.2 in
-    let was = number_within_was 1 100000 words n one.1 in
-    subst (λ (c : ℕ). CountWas words c) (ok_is n.0 count two.2) (record {
-      spelled = was.spelled ∙ ap (λ (ws : List (List ℕ)). decimal n.0 ∷ ws) (end_was n.1 two.0 two.1);
-      is = (was.enough, was.few);
-    })
+node_entries : (config : Config) → AreEntries event_words (IsWorded config) (events_of_nodes config)
+unfolding events_of_nodes lead_at crash_at restart_at
+node_entries config = (
+  tick_entry config,
+  (
+    entry config (codes "lead" ∷ []) _ (leads config) (λ a. refl) (λ a is. is),
+    (
+      entry config (codes "crash" ∷ []) _ (nodes config) (λ a. refl) (λ a is. is),
+      (entry config (codes "restart" ∷ []) _ (two (nodes config) image_law) (λ a. refl) (λ a is. is), disk_entries config),
+    ),
+  ),
+)
 
-pub record FrameWas (words : List (List ℕ)) (frame : ℕ) : Type 0 where
-  pub spelled : words ≡ decimal frame ∷ []
-  pub fits : frame < 2 ^ 64
+event_entries : (config : Config) → AreEntries event_words (IsWorded config) (kinds config)
+unfolding ask_at flow_at lose_at deliver_at list_at
+event_entries config = (
+  entry config (codes "ask" ∷ []) _ (two (clients config) command_law) (λ a. refl) (λ a is. is),
+  (
+    entry config (codes "flow" ∷ []) _ counts (λ a. refl) (λ a is. is),
+    (
+      entry config (codes "lose" ∷ []) _ counts (λ a. refl) (λ a is. is),
+      (
+        entry config (codes "deliver" ∷ []) _ any_numbers (λ a. refl) (λ a is. is),
+        (entry config (codes "list" ∷ []) _ any_numbers (λ a. refl) (λ a is. is), node_entries config),
+      ),
+    ),
+  ),
+)
 
-frame_was : (words : List (List ℕ)) (frame : ℕ) → frame_of words ≡ Ok frame → FrameWas words frame
-unfolding frame_of
-frame_was words frame h =
-    let one = bound (number_at words) _ frame h in
-    let n = one.0 in
-    let two = bound (end_at n.1) _ frame one.2 in
-    let was = number_was words n one.1 in
-    subst (λ (f : ℕ). FrameWas words f) (ok_is n.0 frame two.2) (record {
-      spelled = was.spelled ∙ ap (λ (ws : List (List ℕ)). decimal n.0 ∷ ws) (end_was n.1 two.0 two.1);
-      fits = was.fits;
-    })
+event_took : (config : Config) (words : List (List ℕ)) (x : ScheduleEvent × List (List ℕ)) → event_at config words ≡ Ok x → Took event_words (IsWorded config) words x
+unfolding event_at
+event_took config words x h = keyed_was event_words (IsWorded config) Word (kinds config) (event_entries config) words x h
 
-flow_was : (config : Config) (words : List (List ℕ)) (event : ScheduleEvent) → event_with Flow (count_of words) ≡ Ok event → Was config (codes "flow" ∷ words) event
-flow_was config words event h =
-    let one = bound (count_of words) (λ n. Ok (Flow n)) event h in
-    let was = count_was words one.0 one.1 in
-    subst (λ (e : ScheduleEvent). Was config (codes "flow" ∷ words) e) (ok_is (Flow one.0) event one.2) (record {
-      spelled = ap (λ (ws : List (List ℕ)). codes "flow" ∷ ws) was.spelled;
-      is = λ routed. was.is;
-    })
+-- ---- no low byte
 
-deliver_was : (config : Config) (words : List (List ℕ)) (event : ScheduleEvent) → event_with Deliver (frame_of words) ≡ Ok event → Was config (codes "deliver" ∷ words) event
-deliver_was config words event h =
-    let one = bound (frame_of words) (λ n. Ok (Deliver n)) event h in
-    let was = frame_was words one.0 one.1 in
-    subst (λ (e : ScheduleEvent). Was config (codes "deliver" ∷ words) e) (ok_is (Deliver one.0) event one.2) (record {
-      spelled = ap (λ (ws : List (List ℕ)). codes "deliver" ∷ ws) was.spelled;
-      is = λ routed. was.fits;
-    })
+event_lacks : (config : Config) (byte : ℕ) → byte < 44 → (event : ScheduleEvent) → IsWorded config event → AllByRecursion (Lacks byte) (event_words event)
+unfolding none_low
+event_lacks config byte low (Ask client command) is = (lacks_low byte low (codes "ask") refl, (((clients config).lacks byte low client.0 is.0).0, command_law.lacks byte low command is.1))
+event_lacks config byte low (Flow count) is = (lacks_low byte low (codes "flow") refl, counts.lacks byte low count is)
+event_lacks config byte low (Lose count) is = (lacks_low byte low (codes "lose") refl, counts.lacks byte low count is)
+event_lacks config byte low (Deliver frame) is = (lacks_low byte low (codes "deliver") refl, any_numbers.lacks byte low frame is)
+event_lacks config byte low (Shown frame) is = (lacks_low byte low (codes "list") refl, any_numbers.lacks byte low frame is)
+event_lacks config byte low TickAll is = (lacks_low byte low (codes "tick") refl, (lacks_low byte low (codes "all") refl, tt))
+event_lacks config byte low (TickNode node) is = (lacks_low byte low (codes "tick") refl, (lacks_low byte low (codes "node") refl, (nodes config).lacks byte low node.0 is))
+event_lacks config byte low (TickClient client) is = (lacks_low byte low (codes "tick") refl, (lacks_low byte low (codes "client") refl, (clients config).lacks byte low client.0 is))
+event_lacks config byte low (Lead node ring) is = (lacks_low byte low (codes "lead") refl, (leads config).lacks byte low (node.0, ring.0) is)
+event_lacks config byte low (Crash node) is = (lacks_low byte low (codes "crash") refl, (nodes config).lacks byte low node.0 is)
+event_lacks config byte low (Restart node image) is = (lacks_low byte low (codes "restart") refl, (((nodes config).lacks byte low node.0 is.0).0, image_law.lacks byte low image is.1))
+event_lacks config byte low (Fuse node n) is = (lacks_low byte low (codes "fuse") refl, (calls config).lacks byte low (node.0, n) is)
+event_lacks config byte low (Fail node n) is = (lacks_low byte low (codes "fail") refl, (calls config).lacks byte low (node.0, n) is)
+event_lacks config byte low (FailRead node n) is = (lacks_low byte low (codes "failread") refl, (calls config).lacks byte low (node.0, n) is)
+event_lacks config byte low (Show node) is = (lacks_low byte low (codes "show") refl, (nodes config).lacks byte low node.0 is)
 
-lose_was : (config : Config) (words : List (List ℕ)) (event : ScheduleEvent) → event_with Lose (count_of words) ≡ Ok event → Was config (codes "lose" ∷ words) event
-lose_was config words event h =
-    let one = bound (count_of words) (λ n. Ok (Lose n)) event h in
-    let was = count_was words one.0 one.1 in
-    subst (λ (e : ScheduleEvent). Was config (codes "lose" ∷ words) e) (ok_is (Lose one.0) event one.2) (record {
-      spelled = ap (λ (ws : List (List ℕ)). codes "lose" ∷ ws) was.spelled;
-      is = λ routed. was.is;
-    })
+pub event_law : (config : Config) → Words (event_at config) event_words (IsWorded config)
+event_law config = record { read = event_read config; was = event_took config; lacks = event_lacks config }
 
-list_was : (config : Config) (words : List (List ℕ)) (event : ScheduleEvent) → event_with Shown (frame_of words) ≡ Ok event → Was config (codes "list" ∷ words) event
-list_was config words event h =
-    let one = bound (frame_of words) (λ n. Ok (Shown n)) event h in
-    let was = frame_was words one.0 one.1 in
-    subst (λ (e : ScheduleEvent). Was config (codes "list" ∷ words) e) (ok_is (Shown one.0) event one.2) (record {
-      spelled = ap (λ (ws : List (List ℕ)). codes "list" ∷ ws) was.spelled;
-      is = λ routed. was.fits;
-    })
+-- ---- all words
 
--- what was read behind the first word, which stood there
-abbrev pub behind : Config → List (List ℕ) → (a f d l s : Bool) → Result ScheduleEvent TextFault
-behind config rest a f d l s =
-    if a then ask_of config rest
-    else if f then event_with Flow (count_of rest)
-    else if d then event_with Deliver (frame_of rest)
-    else if l then event_with Lose (count_of rest)
-    else if s then event_with Shown (frame_of rest)
-    else Err Word
+pub event_in_read : (config : Config) (event : ScheduleEvent) → IsWorded config event → event_in config (event_words event) ≡ Ok event
+event_in_read config event is = all_read Left (event_at config) event_words (IsWorded config) (event_law config) event is
 
--- the first word was this keyword
-abbrev pub Stood : List ℕ → List ℕ → Bool → Type 0
-Stood word keyword t = bytes_eq word keyword ≡ t
-
-at_word : (config : Config) (word keyword : List ℕ) (rest : List (List ℕ)) (event : ScheduleEvent) → Stood word keyword true → Was config (keyword ∷ rest) event → Was config (word ∷ rest) event
-at_word config word keyword rest event stood was =
-    subst (λ (w : List ℕ). Was config (w ∷ rest) event) (sym ((bytes_eq-Decides word keyword).0 stood)) was
-
-by_word : (config : Config) (a f d l s : Bool) (word : List ℕ) (rest : List (List ℕ)) (event : ScheduleEvent) →
-    Stood word (codes "ask") a → Stood word (codes "flow") f → Stood word (codes "deliver") d → Stood word (codes "lose") l → Stood word (codes "list") s →
-    behind config rest a f d l s ≡ Ok event → Was config (word ∷ rest) event
-by_word config true f d l s word rest event ask flow deliver lose shown h = at_word config word (codes "ask") rest event ask (ask_was config rest event h)
-by_word config false true d l s word rest event ask flow deliver lose shown h = at_word config word (codes "flow") rest event flow (flow_was config rest event h)
-by_word config false false true l s word rest event ask flow deliver lose shown h = at_word config word (codes "deliver") rest event deliver (deliver_was config rest event h)
-by_word config false false false true s word rest event ask flow deliver lose shown h = at_word config word (codes "lose") rest event lose (lose_was config rest event h)
-by_word config false false false false true word rest event ask flow deliver lose shown h = at_word config word (codes "list") rest event shown (list_was config rest event h)
-by_word config false false false false false word rest event ask flow deliver lose shown h = absurd cc
-
-pub event_was : (config : Config) (words : List (List ℕ)) (event : ScheduleEvent) → event_of config words ≡ Ok event → Was config words event
-unfolding event_of
-event_was config [] event h = absurd cc
-event_was config (word ∷ rest) event h =
-    by_word config (bytes_eq word (codes "ask")) (bytes_eq word (codes "flow")) (bytes_eq word (codes "deliver")) (bytes_eq word (codes "lose")) (bytes_eq word (codes "list"))
-    word rest event refl refl refl refl refl h
+pub event_in_was : (config : Config) (words : List (List ℕ)) (event : ScheduleEvent) → event_in config words ≡ Ok event → (words ≡ event_words event) × IsWorded config event
+event_in_was config words event h = all_was Left (event_at config) event_words (IsWorded config) (event_law config) words event h

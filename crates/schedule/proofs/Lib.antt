@@ -1,3 +1,6 @@
+pub mod FieldLaws
+pub mod CommandLaws
 pub mod EventLaws
 pub mod Lines
 pub mod ScheduleLaws
+pub mod AskLaws

@@ -12,68 +12,50 @@ use Rattle.text_lines.proofs.Laws.{Lacks, words_of_joined, joined_words_of, line
 use Rattle.command_codec.specs.declared.command.Command.TheVariants.{Append}
 use Rattle.mrp_config.specs.Config.{Config}
 use Rattle.schedule.specs.declared.event.ScheduleEvent.{ScheduleEvent}
-use Rattle.schedule.specs.declared.event.ScheduleEvent.TheVariants.{Ask, Flow, Deliver, Lose, List as Shown}
+use Rattle.schedule.specs.declared.event.ScheduleEvent.TheVariants.{Ask, Flow, Lose, Deliver, List as Shown, TickAll, TickNode, TickClient, Lead, Crash, Restart, Fuse, Fail, FailRead, Show}
 use Rattle.schedule.specs.declared.fault.FaultKind.{FaultKind}
 use Rattle.schedule.specs.declared.fault.FaultKind.TheVariants.{Route, Cut, TooMany}
 use Rattle.schedule.specs.declared.fault.ScheduleFault.{ScheduleFault}
 use Rattle.schedule.specs.Faults.{Answers}
-use Rattle.schedule.specs.Spelling.{event_words, event_line, event_lines, schedule_text, IsEvent, IsSchedule}
-use Rattle.schedule.specs.Reading.{event_of, kinded, is_routed, line_of, bounded, limited, at_line, events_from, schedule_of, IsFirstFault, NamesFirst}
-use Rattle.schedule.proofs.EventLaws.{event_read, event_routed, event_was}
+use Rattle.schedule.specs.Spelling.{event_words, event_line, event_lines, schedule_text, is_routed, IsEvent, IsSchedule}
+use Rattle.schedule.specs.Reading.{event_in, kinded, line_of, bounded, limited, at_line, events_from, schedule_of, IsFirstFault, NamesFirst}
+use Rattle.schedule.proofs.EventLaws.{event_law, event_in_read, event_in_was}
 use Rattle.schedule.proofs.Lines.{event_then}
 use Rattle.mrp_types.proofs.TestLemmas.{both, not_above, at_most}
 
 -- ---- a line has no line feed, its words have no space
 
--- each byte is 45 or more
-all_high : List ℕ → Bool
-all_high [] = true
-all_high (b ∷ bytes) = nat_le 45 b && all_high bytes
+pub lacks_words : (byte : ℕ) (config : Config) (event : ScheduleEvent) → byte < 44 → IsEvent config event → AllByRecursion (Lacks byte) (event_words event)
+lacks_words byte config event low is = (event_law config).lacks byte low event is.0
 
-high : (b byte : ℕ) → nat_le 45 b ≡ true → byte < 45 → b ≢ byte
-high b byte test low = λ same. grind arith
+-- words, of which there is one at least
+abbrev pub AreSome : List (List ℕ) → Type 0
+AreSome [] = ⊥
+AreSome (word ∷ words) = Unit {0}
 
-lacks_high : (byte : ℕ) (bytes : List ℕ) → byte < 45 → all_high bytes ≡ true → Lacks byte bytes
-unfolding all_high
-lacks_high byte [] low test = tt
-lacks_high byte (b ∷ bytes) low test =
-    let tests = both (nat_le 45 b) (all_high bytes) test in
-    (high b byte tests.0 low, lacks_high byte bytes low tests.1)
+pub spelled_all : (words : List (List ℕ)) → AreSome words → AllByRecursion (Lacks 32) words → words_of (joined words) ≡ words
+spelled_all [] some lacks = absurd some
+spelled_all (word ∷ words) some lacks = words_of_joined word words lacks
 
-pub lacks_words : (byte : ℕ) (config : Config) (event : ScheduleEvent) → byte < 45 → IsEvent config event → AllByRecursion (Lacks byte) (event_words event)
-unfolding all_high
-lacks_words byte config (Ask client (Append log value)) low is = (
-  lacks_high byte (codes "ask") low refl,
-  (
-    lacks_decimal byte client.0 (omega (arith, low)) (omega (arith, is.0.fits)),
-    (
-      lacks_high byte (codes "append") low refl,
-      (
-        lacks_decimal byte log.0 (omega (arith, low)) (omega (arith, is.1.fits)),
-        (lacks_hex byte value low is.1.bytes, tt),
-      ),
-    ),
-  ),
-)
-lacks_words byte config (Ask client other) low is = absurd is.1
-lacks_words byte config (Flow count) low is =
-    (lacks_high byte (codes "flow") low refl, (lacks_decimal byte count (omega (arith, low)) (omega (arith, is.1)), tt))
-lacks_words byte config (Deliver frame) low is =
-    (lacks_high byte (codes "deliver") low refl, (lacks_decimal byte frame (omega (arith, low)) is, tt))
-lacks_words byte config (Lose count) low is =
-    (lacks_high byte (codes "lose") low refl, (lacks_decimal byte count (omega (arith, low)) (omega (arith, is.1)), tt))
-lacks_words byte config (Shown frame) low is =
-    (lacks_high byte (codes "list") low refl, (lacks_decimal byte frame (omega (arith, low)) is, tt))
+some_words : (event : ScheduleEvent) → AreSome (event_words event)
+some_words (Ask client command) = tt
+some_words (Flow count) = tt
+some_words (Lose count) = tt
+some_words (Deliver frame) = tt
+some_words (Shown frame) = tt
+some_words TickAll = tt
+some_words (TickNode node) = tt
+some_words (TickClient client) = tt
+some_words (Lead node ring) = tt
+some_words (Crash node) = tt
+some_words (Restart node image) = tt
+some_words (Fuse node calls) = tt
+some_words (Fail node calls) = tt
+some_words (FailRead node calls) = tt
+some_words (Show node) = tt
 
 pub spelled_words : (config : Config) (event : ScheduleEvent) → IsEvent config event → words_of (joined (event_words event)) ≡ event_words event
-spelled_words config event is = cases event (lacks_words 32 config event (lit< tt) is)
-  where
-    cases : (event : ScheduleEvent) → AllByRecursion (Lacks 32) (event_words event) → words_of (joined (event_words event)) ≡ event_words event
-    cases (Ask client command) lacks = words_of_joined (codes "ask") _ lacks
-    cases (Flow count) lacks = words_of_joined (codes "flow") _ lacks
-    cases (Deliver frame) lacks = words_of_joined (codes "deliver") _ lacks
-    cases (Lose count) lacks = words_of_joined (codes "lose") _ lacks
-    cases (Shown frame) lacks = words_of_joined (codes "list") _ lacks
+spelled_words config event is = spelled_all (event_words event) (some_words event) (lacks_words 32 config event (lit< tt) is)
 
 lacks_append : (byte : ℕ) (xs ys : List ℕ) → Lacks byte xs → Lacks byte ys → Lacks byte (xs ++ ys)
 lacks_append byte [] ys first second = second
@@ -87,7 +69,7 @@ lacks_spaced byte [] low all = tt
 lacks_spaced byte (word ∷ words) low all =
     (space byte low, lacks_append byte word (flat_map spaced words) all.0 (lacks_spaced byte words low all.1))
 
-lacks_joined : (byte : ℕ) (words : List (List ℕ)) → byte < 32 → AllByRecursion (Lacks byte) words → Lacks byte (joined words)
+pub lacks_joined : (byte : ℕ) (words : List (List ℕ)) → byte < 32 → AllByRecursion (Lacks byte) words → Lacks byte (joined words)
 lacks_joined byte [] low all = tt
 lacks_joined byte (word ∷ words) low all = lacks_append byte word (flat_map spaced words) all.0 (lacks_spaced byte words low all.1)
 
@@ -111,7 +93,7 @@ event_is x y h = cc
 pub line_read : (config : Config) (event : ScheduleEvent) → IsEvent config event → line_of config (ended_line (event_line event)) ≡ Ok event
 unfolding line_of
 line_read config event is =
-    rw (spelled_words config event is, event_read config event is, event_routed config event is) refl
+    rw (spelled_words config event is, event_in_read config event is.0, is.1) refl
 
 -- what was read of a line
 pub record LineWas (config : Config) (line : Line) (event : ScheduleEvent) : Type 0 where
@@ -122,7 +104,7 @@ kinded_was : (read : Result ScheduleEvent TextFault) (event : ScheduleEvent) →
 kinded_was (Ok x) event h = ap Ok (kind_is x event h)
 kinded_was (Err fault) event h = absurd cc
 
-of_parts : (line : Line) (text : List ℕ) → line.text ≡ text → line.ended ≡ true → line ≡ ended_line text
+pub of_parts : (line : Line) (text : List ℕ) → line.text ≡ text → line.ended ≡ true → line ≡ ended_line text
 of_parts line text same ended =
     let made : List ℕ → Bool → Line = λ (t : List ℕ) (e : Bool). record { text = t; ended = e } in
     ap₂ made same ended
@@ -130,15 +112,15 @@ of_parts line text same ended =
 pub line_was : (config : Config) (line : Line) (event : ScheduleEvent) → line_of config line ≡ Ok event → LineWas config line event
 unfolding line_of
 line_was config line event h =
-    let one = bound (kinded (event_of config (words_of line.text))) (λ e. if line.ended then (if is_routed config e then Ok e else Err Route) else Err Cut) event h in
+    let one = bound (kinded (event_in config (words_of line.text))) (λ e. if line.ended then (if is_routed config e then Ok e else Err Route) else Err Cut) event h in
     let read = one.0 in
     let ended = then_was line.ended Cut (if is_routed config read then Ok read else Err Route) event one.2 in
     let routed = then_was (is_routed config read) Route (Ok read) event ended.1 in
-    let was = event_was config (words_of line.text) read (kinded_was (event_of config (words_of line.text)) read one.1) in
-    let same : line.text ≡ event_line read = sym (joined_words_of line.text) ∙ ap joined was.spelled in
+    let was = event_in_was config (words_of line.text) read (kinded_was (event_in config (words_of line.text)) read one.1) in
+    let same : line.text ≡ event_line read = sym (joined_words_of line.text) ∙ ap joined was.0 in
     subst (λ (e : ScheduleEvent). LineWas config line e) (kind_is read event routed.1) (record {
       spelled = of_parts line (event_line read) same ended.0;
-      is = was.is routed.0;
+      is = (was.1, routed.0);
     })
 
 -- ---- all lines

@@ -1,15 +1,22 @@
-//! Schedules: the events that happen to a system, a line each.
+//! Schedules: the events that happen to a system, a line each; and a client's command, one line.
 #![tactic(auto)]
 
+mod asking;
+mod commands;
 mod event;
 mod fault;
+mod fields;
+mod kinds;
 mod reading;
+mod rows;
 mod words;
 mod writing;
 
+pub use asking::read_ask;
 pub use event::{Schedule, ScheduleEvent};
 pub use fault::{FaultKind, ScheduleFault};
 pub use reading::read;
+pub use rows::{events_of_each_kind, first_faults, texts_of_clients};
 pub use writing::write;
 
 #[cfg(test)]

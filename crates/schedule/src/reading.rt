@@ -2,21 +2,23 @@
 
 ghost use Rattle.std.specs.Prelude.{◌≡◌, List, Ok, IfOk, IfErr};
 ghost use Rattle.schedule.specs.declared.event.ScheduleEvent.{ScheduleEvent};
-ghost use Rattle.schedule.specs.Spelling.{IsSchedule};
+ghost use Rattle.text_lines.specs.Split.{words_of};
+ghost use Rattle.text_lines.specs.Reading.{Says};
+ghost use Rattle.schedule.specs.Spelling.{is_routed, IsSchedule};
 ghost use Rattle.schedule.specs.Faults.{Judges, Answers};
-ghost use Rattle.schedule.specs.Reading.{is_routed, line_of, bounded, at_line, schedule_of, line_with, NamesFirst};
+ghost use Rattle.schedule.specs.Reading.{event_in, line_of, bounded, at_line, schedule_of, line_with, NamesFirst};
 
 use crate::fault::kind_of;
-use crate::words::read_event;
+use crate::kinds::read_event;
 use crate::{FaultKind, Schedule, ScheduleEvent, ScheduleFault};
 use mrp_config::Deployment;
 use std::alloc::Global;
-use text_lines::{FirstLine, split_line};
+use text_lines::{FirstLine, TextFault, Words, split_line};
 
 // The most events and bytes of a schedule.
 const EVENTS: u32 = 1 << 20;
 
-const BYTES: usize = 67_108_864;
+pub const BYTES: usize = 67_108_864;
 
 /// The schedule that the bytes spell, all of the bytes, over a deployment; or the first line at fault.
 ///
@@ -97,7 +99,7 @@ fn read_line(
     if end > BYTES {
         return Err(FaultKind::TooMany);
     }
-    let event = match read_event(alloc, deployment, line.text) {
+    let event = match read_words(alloc, deployment, line.text) {
         Ok(event) => event,
         Err(fault) => return Err(kind_of(fault)),
     };
@@ -118,4 +120,18 @@ fn has_ring(deployment: &Deployment, event: &ScheduleEvent) -> bool
         ScheduleEvent::Ask { client: _, command } => deployment.route(command).is_ok(),
         _ => true,
     }
+}
+
+// The event of these words, all of them.
+fn read_words(
+    alloc: Global,
+    deployment: &Deployment,
+    text: &[u8],
+) -> Result<ScheduleEvent, TextFault>
+    ensures { Says (λ e. e) (event_in deployment.now (words_of text.now)) result }
+{
+    let mut words = Words::new(text);
+    let event = read_event(alloc, deployment, &mut words)?;
+    words.end()?;
+    Ok(event)
 }

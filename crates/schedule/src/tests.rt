@@ -59,152 +59,37 @@ fn fault(line: u32, kind: FaultKind) -> Result<usize, ScheduleFault> {
     Err(ScheduleFault { line, kind })
 }
 
+// Each word, read and written again.
 #[test]
-fn events_of_each_kind(rt: HostRuntime) -> Result<(), Fail> {
+fn events_both_ways(rt: HostRuntime) -> Result<(), Fail> {
     let alloc = rt.alloc();
-    let text =
-        b"ask 7 append 63 6869\nflow 100000\ndeliver 18446744073709551615\nlose 1\nlist 0\nask 0 append 0 -\n";
-    let schedule = read(alloc, &deployment(alloc)?, text)?;
+    let text = "ask 7 append 63 6869\nask 0 append 0 -\nask 0 multi 0,63 00ff\nask 0 multi 63 -\n\
+        ask 0 read 63 18446744073709551615\nask 0 trimlog 0 5\nask 0 get 6b\nask 0 scan 61 62\nask 0 scan - -\n\
+        ask 0 update 6b 01\nask 0 insert 6b6c -\nask 0 delete 00\nflow 100000\nlose 1\n\
+        deliver 18446744073709551615\nlist 0\ntick all\ntick node 2\ntick client 7\nlead 2 0\ncrash 0\n\
+        restart 0 old\nrestart 0 new\nrestart 0 fill 1000000 7f\nfuse 0 0\nfail 1 1000\nfailread 2 3\nshow 1\n";
+    let schedule = read(alloc, &deployment(alloc)?, text.as_bytes())?;
+    assert_eq!(rt; schedule.items().len(), 28);
     match schedule.items() {
         [
             ScheduleEvent::Ask {
                 client,
                 command: Command::Append { log, value },
             },
-            ScheduleEvent::Flow { count },
-            ScheduleEvent::Deliver { frame },
-            ScheduleEvent::Lose { count: lost },
-            ScheduleEvent::List { frame: shown },
-            ScheduleEvent::Ask { .. },
+            ..,
+            ScheduleEvent::FailRead { node, calls },
+            ScheduleEvent::Show { node: shown },
         ] => {
             assert_eq!(rt;
-                (client.0, log.0, *count, *frame, *lost, *shown),
-                (7, 63, 100_000, u64::MAX, 1, 0)
+                (client.0, log.0, node.0, *calls, shown.0),
+                (7, 63, 2, 3, 1)
             );
             assert_eq!(rt; value.bytes(), b"hi".as_slice());
         }
         _ => assert!(rt; false, "other events"),
     }
-    assert_eq!(rt; write(alloc, &schedule)?.bytes(), text.as_slice());
+    assert_eq!(rt; write(alloc, &schedule)?.bytes(), text.as_bytes());
     assert!(rt; write(alloc, &Schedule::from_vec(Vec::new(alloc)))?.is_empty());
-    Ok(())
-}
-
-#[test]
-fn faults_of_words(rt: HostRuntime) -> Result<(), Fail> {
-    let alloc = rt.alloc();
-    let deployment = deployment(alloc)?;
-    for text in [
-        "\n",
-        " \n",
-        "crash 0\n",
-        "Flow 1\n",
-        " flow 1\n",
-        "flow\t1\n",
-        "flow\n",
-        "flow\r\n",
-        "deliver\n",
-        "lose\n",
-        "list\n",
-        "ask\n",
-        "ask 0\n",
-        "ask 0 \n",
-        "ask 0  append 0 -\n",
-        "ask 0 get 6b\n",
-        "ask 0 append\n",
-        "ask 0 append 0\n",
-    ] {
-        assert_eq!(rt;
-            counted(alloc, &deployment, text.as_bytes()),
-            fault(1, FaultKind::Word),
-            "{text:?}"
-        );
-    }
-    for text in [
-        "flow \n",
-        "flow  1\n",
-        "flow 01\n",
-        "flow 00\n",
-        "flow +1\n",
-        "flow -1\n",
-        "flow 1a\n",
-        "flow 1\t\n",
-        "flow 1\r\n",
-        "lose x\n",
-        "deliver -\n",
-        "list 018446744073709551616\n",
-        "ask \n",
-        "ask 00 append 0 -\n",
-        "ask 0 append  -\n",
-        "ask 0 append 0 \n",
-        "ask 0 append 0 0\n",
-        "ask 0 append 0 0A\n",
-        "ask 0 append 0 0g\n",
-        "ask 0 append 0 --\n",
-        "ask 0 append 0 -\r\n",
-    ] {
-        assert_eq!(rt;
-            counted(alloc, &deployment, text.as_bytes()),
-            fault(1, FaultKind::Number),
-            "{text:?}"
-        );
-    }
-    for text in [
-        "flow 0\n",
-        "flow 100001\n",
-        "lose 0\n",
-        "lose 100001\n",
-        "deliver 18446744073709551616\n",
-        "list 1000000000000000000000000000000000000000000000000000000000000000000000\n",
-        "flow 18446744073709551617\n",
-        "ask 1 append 0 -\n",
-        "ask 256 append 0 -\n",
-        "ask 18446744073709551616 append 0 -\n",
-        "ask 0 append 64 -\n",
-        "ask 0 append 256 -\n",
-    ] {
-        assert_eq!(rt;
-            counted(alloc, &deployment, text.as_bytes()),
-            fault(1, FaultKind::Range),
-            "{text:?}"
-        );
-    }
-    Ok(())
-}
-
-#[test]
-fn the_first_fault_of_a_line(rt: HostRuntime) -> Result<(), Fail> {
-    let alloc = rt.alloc();
-    let deployment = deployment(alloc)?;
-    for (text, kind) in [
-        ("flow 1 2\n", FaultKind::Left),
-        ("flow 1 \n", FaultKind::Left),
-        ("list 0 x\n", FaultKind::Left),
-        ("ask 0 append 0 - -\n", FaultKind::Left),
-        ("flow 1", FaultKind::Cut),
-        ("ask 0 append 0 -", FaultKind::Cut),
-        ("ask 0 append 5 -\n", FaultKind::Route),
-        ("ask 0 append 62 6869\n", FaultKind::Route),
-        // the fields from the left
-        ("ask 1 get 64 0A x", FaultKind::Range),
-        ("ask x get 64 0A x", FaultKind::Number),
-        ("ask 0 get 64 0A x", FaultKind::Word),
-        ("ask 0 append 64 0A x", FaultKind::Range),
-        ("ask 0 append 5 0A x", FaultKind::Number),
-        ("flow 0 0", FaultKind::Range),
-        ("flow", FaultKind::Word),
-        // then words that are left over, the cut, and the route last
-        ("ask 0 append 5 - x", FaultKind::Left),
-        ("flow 1 ", FaultKind::Left),
-        ("ask 0 append 5 -", FaultKind::Cut),
-        ("ask 0 append 5 - x\n", FaultKind::Left),
-    ] {
-        assert_eq!(rt;
-            counted(alloc, &deployment, text.as_bytes()),
-            fault(1, kind),
-            "{text:?}"
-        );
-    }
     Ok(())
 }
 
@@ -214,7 +99,6 @@ fn the_first_line_at_fault(rt: HostRuntime) -> Result<(), Fail> {
     let deployment = deployment(alloc)?;
     for (text, want) in [
         ("", Ok(0)),
-        ("flow 1\n", Ok(1)),
         ("flow 1\nlose 2\nlist 3\n", Ok(3)),
         (
             "flow 1\nflow 1\nflow 0\nflow x\nflow",
@@ -222,15 +106,43 @@ fn the_first_line_at_fault(rt: HostRuntime) -> Result<(), Fail> {
         ),
         ("flow 1\n\nflow 0\n", fault(2, FaultKind::Word)),
         ("flow 1\nflow 2", fault(2, FaultKind::Cut)),
-        ("flow 1\nflow", fault(2, FaultKind::Word)),
         ("ask 0 append 5 -\nflow 1", fault(1, FaultKind::Route)),
-        ("flow 1\n\n", fault(2, FaultKind::Word)),
+        ("swap 0\n", fault(1, FaultKind::Word)),
+        ("tick\tall\n", fault(1, FaultKind::Word)),
+        ("crash 0\r\n", fault(1, FaultKind::Number)),
+        ("lead 3 0\n", fault(1, FaultKind::Range)),
+        ("ask 0 scan 62 62\n", fault(1, FaultKind::Range)),
+        ("ask 0 append 5 -", fault(1, FaultKind::Cut)),
+        ("ask 0 append 5 - x\n", fault(1, FaultKind::Left)),
     ] {
         assert_eq!(rt;
             counted(alloc, &deployment, text.as_bytes()),
             want,
             "{text:?}"
         );
+    }
+    Ok(())
+}
+
+#[test]
+fn texts_of_a_client(rt: HostRuntime) -> Result<(), Fail> {
+    let alloc = rt.alloc();
+    let deployment = deployment(alloc)?;
+    assert!(rt;
+        matches!(
+            &read_ask(alloc, &deployment, b"get 6b\n")?,
+            Command::Get { .. }
+        )
+    );
+    for (text, line, kind) in [
+        ("", 1, FaultKind::Cut),
+        ("get 6b\nx", 2, FaultKind::Left),
+        ("append 5 -\n", 1, FaultKind::Route),
+    ] {
+        match read_ask(alloc, &deployment, text.as_bytes()) {
+            Ok(_) => return Err(Fail::from(text)),
+            Err(fault) => assert_eq!(rt; fault, ScheduleFault { line, kind }),
+        }
     }
     Ok(())
 }
@@ -257,10 +169,14 @@ fn long_values(rt: HostRuntime) -> Result<(), Fail> {
     let mut text = Vec::new(alloc);
     put_append(&mut text, 2_048)?;
     assert_eq!(rt; counted(alloc, &deployment, &text), Ok(1));
+    text.extend_from_slice(b"ask 0 get ")?;
+    put_times(&mut text, b"61", 256)?;
+    text.push(b'\n')?;
+    assert_eq!(rt; counted(alloc, &deployment, &text), Ok(2));
     put_append(&mut text, 2_049)?;
     assert_eq!(rt;
         counted(alloc, &deployment, &text),
-        fault(2, FaultKind::Range)
+        fault(3, FaultKind::Range)
     );
     Ok(())
 }

@@ -1,119 +1,84 @@
-//! Events from the words of a line.
+//! What the next words of a line say.
 
 ghost use Rattle.std.specs.Prelude.{◌≡◌, ◌≤◌, IfOk};
-ghost use Rattle.text_lines.specs.Split.{words_of};
-ghost use Rattle.text_lines.specs.Reading.{Gives, Reads, Says};
-ghost use Rattle.schedule.specs.Reading.{event_of, ask_of, client_of, value_of, count_of, frame_of};
+ghost use Rattle.text_lines.specs.Reading.{Gives, Reads};
+ghost use Rattle.schedule.specs.Reading.{within, any_number, client_word, node_word, log_word, logs_word, bytes_word, byte_word};
 
-use crate::ScheduleEvent;
-use command_codec::Command;
+use crate::fields::{
+    LAST_LOG, byte_of_word, bytes_in, client_of, logs_of_word, node_of, number_in,
+};
+use command_codec::Logs;
 use mrp_config::Deployment;
-use mrp_types::{ClientId, LogId, Octets};
+use mrp_types::{LogId, Octets};
 use std::alloc::Global;
-use text_lines::{TextFault, Words};
+use text_lines::{TextFault, Words, number_of_word};
 
-// The greatest number of a client, and of a log.
-const LAST_CLIENT: u64 = 255;
-
-const LAST_LOG: u64 = 63;
-
-// The greatest length of a value in bytes.
-const STORED: usize = 2_048;
-
-// The most frames of one `flow` or `lose`.
-const FRAMES: u64 = 100_000;
-
-// The event of a line, but for its route.
-#[tactic(auto, unfolding(crate::specs::Reading::event_of))]
-pub fn read_event(
-    alloc: Global,
-    deployment: &Deployment,
-    line: &[u8],
-) -> Result<ScheduleEvent, TextFault>
-    ensures { Says (λ e. e) (event_of deployment.now (words_of line.now)) result }
+/// The next word as a number of this range, both ends included.
+pub fn read_within(words: &mut Words<'_>, least: u64, most: u64) -> Result<u64, TextFault>
+    ensures exact { Gives (λ n. n) (within least most words.old) result words.new }
+    ensures few { IfOk result (λ n. n ≤ most) }
 {
-    let mut words = Words::new(line);
     let word = words.word()?;
-    if word == b"ask".as_slice() {
-        return read_ask(alloc, deployment, &mut words);
-    }
-    if word == b"flow".as_slice() {
-        let count = read_count(&mut words)?;
-        return Ok(ScheduleEvent::Flow { count });
-    }
-    if word == b"deliver".as_slice() {
-        let frame = read_frame(&mut words)?;
-        return Ok(ScheduleEvent::Deliver { frame });
-    }
-    if word == b"lose".as_slice() {
-        let count = read_count(&mut words)?;
-        return Ok(ScheduleEvent::Lose { count });
-    }
-    if word == b"list".as_slice() {
-        let frame = read_frame(&mut words)?;
-        return Ok(ScheduleEvent::List { frame });
-    }
-    Err(TextFault::Word)
+    number_in(word, least, most)
 }
 
-#[tactic(auto, unfolding(crate::specs::Reading::ask_of))]
-fn read_ask(
+/// The next word as a number below 2^64.
+pub fn read_number(words: &mut Words<'_>) -> Result<u64, TextFault>
+    ensures { Gives (λ n. n) (any_number words.old) result words.new }
+{
+    let word = words.word()?;
+    number_of_word(word)
+}
+
+/// The next word as the number of a client of the deployment.
+pub fn read_client(deployment: &Deployment, words: &mut Words<'_>) -> Result<u8, TextFault>
+    ensures { Gives (λ n. n) (client_word deployment.now words.old) result words.new }
+{
+    let word = words.word()?;
+    client_of(deployment, word)
+}
+
+/// The next word as the number of a node of the deployment.
+pub fn read_node(deployment: &Deployment, words: &mut Words<'_>) -> Result<u8, TextFault>
+    ensures { Gives (λ n. n) (node_word deployment.now words.old) result words.new }
+{
+    let word = words.word()?;
+    node_of(deployment, word)
+}
+
+/// The next word as a log below 64.
+pub fn read_log(words: &mut Words<'_>) -> Result<LogId, TextFault>
+    ensures { Gives (λ l. l.0) (log_word words.old) result words.new }
+{
+    let log = read_within(words, 0, LAST_LOG)?;
+    Ok(LogId(log as u8))
+}
+
+/// The next word as logs with commas between.
+pub fn read_logs(alloc: Global, words: &mut Words<'_>) -> Result<Logs, TextFault>
+    ensures { Reads (λ l. l) (logs_word words.old) result words.new }
+{
+    let word = words.word()?;
+    logs_of_word(alloc, word)
+}
+
+/// The next word as bytes, whose number is of this range.
+pub fn read_bytes(
     alloc: Global,
-    deployment: &Deployment,
     words: &mut Words<'_>,
-) -> Result<ScheduleEvent, TextFault>
-    ensures { Says (λ e. e) (ask_of deployment.now words.old) result }
+    least: usize,
+    most: usize,
+) -> Result<Octets, TextFault>
+    ensures { Reads (λ b. b) (bytes_word least most words.old) result words.new }
 {
-    let client = read_client(deployment, words)?;
-    words.keyword(b"append")?;
-    let log = LogId(words.number_within(0, LAST_LOG)? as u8);
-    let value = read_value(alloc, words)?;
-    words.end()?;
-    Ok(ScheduleEvent::Ask {
-        client,
-        command: Command::Append { log, value },
-    })
+    let word = words.word()?;
+    bytes_in(alloc, word, least, most)
 }
 
-// A client that the deployment has.
-#[tactic(auto, unfolding(crate::specs::Reading::client_of))]
-fn read_client(deployment: &Deployment, words: &mut Words<'_>) -> Result<ClientId, TextFault>
-    ensures { Gives (λ c. c) (client_of deployment.now words.old) result words.new }
+/// The next word as one byte.
+pub fn read_byte(alloc: Global, words: &mut Words<'_>) -> Result<u8, TextFault>
+    ensures { Reads (λ b. b) (byte_word words.old) result words.new }
 {
-    let client = ClientId(words.number_within(0, LAST_CLIENT)? as u8);
-    if deployment.client(client).is_none() {
-        return Err(TextFault::Range);
-    }
-    Ok(client)
-}
-
-#[tactic(auto, unfolding(crate::specs::Reading::value_of))]
-fn read_value(alloc: Global, words: &mut Words<'_>) -> Result<Octets, TextFault>
-    ensures { Reads (λ v. v) (value_of words.old) result words.new }
-{
-    let value = words.hex(alloc)?;
-    if value.len() > STORED {
-        return Err(TextFault::Range);
-    }
-    Ok(value)
-}
-
-// How many frames, the last word of a line.
-#[tactic(auto, unfolding(crate::specs::Reading::count_of))]
-fn read_count(words: &mut Words<'_>) -> Result<u32, TextFault>
-    ensures { result ≡ count_of words.old }
-{
-    let count = words.number_within(1, FRAMES)?;
-    words.end()?;
-    Ok(count as u32)
-}
-
-// The number of a frame, the last word of a line.
-#[tactic(auto, unfolding(crate::specs::Reading::frame_of))]
-fn read_frame(words: &mut Words<'_>) -> Result<u64, TextFault>
-    ensures { result ≡ frame_of words.old }
-{
-    let frame = words.number()?;
-    words.end()?;
-    Ok(frame)
+    let word = words.word()?;
+    byte_of_word(alloc, word)
 }

@@ -3,3 +3,4 @@ pub mod Laws
 pub mod Numbers
 pub mod Places
 pub mod WordsWere
+pub mod WordLaws

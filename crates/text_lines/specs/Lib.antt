@@ -1,3 +1,4 @@
 pub mod Split
 pub mod Text
 pub mod Reading
+pub mod Words

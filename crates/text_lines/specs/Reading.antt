@@ -63,9 +63,13 @@ hex_of word = if bytes_eq word (codes "-") then Ok [] else (if length word == 0 
 
 -- ---- words
 
+-- the next word, or this fault
+abbrev pub word_or : {E : Type 0} → E → List (List ℕ) → Result (List ℕ × List (List ℕ)) E
+word_or missing [] = Err missing
+word_or missing (word ∷ words) = Ok (word, words)
+
 abbrev pub word_at : List (List ℕ) → Result (List ℕ × List (List ℕ)) TextFault
-word_at [] = Err Word
-word_at (word ∷ words) = Ok (word, words)
+word_at words = word_or Word words
 
 -- whether this is the next word
 abbrev pub is_first : List ℕ → List (List ℕ) → Bool

@@ -24,7 +24,8 @@ use Rattle.mrp_types.specs.declared.value.Value.{Value}
 use Rattle.mrp_types.specs.declared.value.Value.TheVariants.{Skip, Batch}
 use Rattle.transcript.specs.Spelling.{value_text, tuple_text, party_text, IsCount, IsValue, AreBytes, AreInstances, IsParty}
 use Rattle.transcript.specs.Fields.{below, number_of, numbers_of, tuple_of, party_of, some_bytes, bytes_of, batch_value, value_of}
-use Rattle.transcript.proofs.WordLaws.{Field, none_low, lacks_low}
+use Rattle.text_lines.proofs.WordLaws.{none_low, lacks_low, lacks_joined}
+use Rattle.transcript.proofs.WordLaws.{Field}
 
 -- where a test chose a value, it held
 then_was : {A : Type 0} (t : Bool) (x y : A) → (if t then Some x else None) ≡ Some y → (t ≡ true) × (x ≡ y)
@@ -95,18 +96,6 @@ numbers_were (piece ∷ pieces) tuple h = number_first piece pieces (number_of (
 lacks_numbers : (byte : ℕ) → byte < 48 → (tuple : List ℕ) → AllByRecursion IsCount tuple → AllByRecursion (Lacks byte) (map decimal tuple)
 lacks_numbers byte low [] are = tt
 lacks_numbers byte low (n ∷ tuple) are = (lacks_decimal byte n low are.0, lacks_numbers byte low tuple are.1)
-
-lacks_after : (byte : ℕ) (first second : List ℕ) → Lacks byte first → Lacks byte second → Lacks byte (first ++ second)
-lacks_after byte [] second a b = b
-lacks_after byte (c ∷ first) second a b = (a.0, lacks_after byte first second a.1 b)
-
-lacks_set_off : (byte comma : ℕ) → comma ≢ byte → (pieces : List (List ℕ)) → AllByRecursion (Lacks byte) pieces → Lacks byte (flat_map (set_off comma) pieces)
-lacks_set_off byte comma apart [] are = tt
-lacks_set_off byte comma apart (piece ∷ pieces) are = (apart, lacks_after byte piece (flat_map (set_off comma) pieces) are.0 (lacks_set_off byte comma apart pieces are.1))
-
-pub lacks_joined : (byte comma : ℕ) → comma ≢ byte → (pieces : List (List ℕ)) → AllByRecursion (Lacks byte) pieces → Lacks byte (joined_by comma pieces)
-lacks_joined byte comma apart [] are = tt
-lacks_joined byte comma apart (piece ∷ pieces) are = lacks_after byte piece (flat_map (set_off comma) pieces) are.0 (lacks_set_off byte comma apart pieces are.1)
 
 pieces_of_tuple : (tuple : List ℕ) → AreInstances tuple → pieces_of 44 (tuple_text tuple) ≡ map decimal tuple
 pieces_of_tuple [] are = absurd (omega (arith, are.1.0))

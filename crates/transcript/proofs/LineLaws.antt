@@ -22,10 +22,12 @@ use Rattle.transcript.specs.declared.kinds.Limit.TheVariants.{Ballot as OfBallot
 use Rattle.transcript.specs.declared.line.ShownState.{ShownState}
 use Rattle.transcript.specs.declared.line.ShownFrame.{ShownFrame}
 use Rattle.transcript.specs.Spelling.{value_text, tuple_text, party_text, cause_text, state_words, frame_words, line_words, line_bytes, IsId, IsCount, IsValue, AreBytes, AreInstances, IsParty, IsShownState, IsShownFrame, IsLine}
-use Rattle.transcript.specs.Words.{Reader, both, shown, end_at}
+use Rattle.text_lines.specs.Words.{both, shown}
+use Rattle.transcript.specs.Words.{Reader, end_at}
 use Rattle.transcript.specs.Reading.{id_at, count_at, tuple_at, hex_at, value_at, party_at, learn_at, deliver_at, reply_at, answer_at, busy_at, begin_at, chose_at, restore_at, saved_at, trim_at, refuse_at, limit_line, limits, limit_of, limit_at, causes, cause_at, down_at, up_at, state_of, state_at, frame_of, frame_at, last_at, kinds_of_nodes, kinds_of_recovery, kinds, kind_at, line_in, onto_text, text_in, line_at, line_of}
 use Rattle.transcript.proofs.FieldLaws.{id, count, tuple, tuple_is_no_dash, party, party_is_no_none, bytes, value}
-use Rattle.transcript.proofs.WordLaws.{Words, Took, Entry, AreEntries, done, done_is, alone, spell_both, IsBoth, one_words, both_words, viewed_was, given_was, keyed_was, unless_was, none_low, lacks_low}
+use Rattle.text_lines.proofs.WordLaws.{Words, Took, Entry, AreEntries, alone, spell_both, IsBoth, two, viewed_was, given_was, keyed_was, none_low, lacks_low}
+use Rattle.transcript.proofs.WordLaws.{done, done_is, one_words, unless_was}
 
 -- ---- fields
 
@@ -46,10 +48,6 @@ values = one_words _ _ _ value kind.Hex
 
 parties : Words party_at (alone party_text) IsParty
 parties = one_words _ _ _ party kind.Number
-
-two : {A B : Type 0} {first : Reader A} {second : Reader B} {spell : A → List (List ℕ)} {tell : B → List (List ℕ)} {Is : A → Type 0} {Are : B → Type 0}
-    → Words first spell Is → Words second tell Are → Words (both first second) (spell_both spell tell) (IsBoth Is Are)
-two {first = first} {second = second} {spell = spell} {tell = tell} {Is = Is} {Are = Are} a b = both_words first second spell tell Is Are a b
 
 -- ---- parts of lines
 
@@ -86,7 +84,7 @@ limit_lacks byte low OfAttempt is = (lacks_low byte low (codes "attempt") refl, 
 
 limit_was : (words : List (List ℕ)) (x : Limit × List (List ℕ)) → limit_of words ≡ Ok x → Took limit_words IsLimit words x
 unfolding limit_of
-limit_was words x h = keyed_was limit_words IsLimit limits limit_entries words x h
+limit_was words x h = keyed_was limit_words IsLimit kind.Word limits limit_entries words x h
 
 limit_law : Words limit_of limit_words IsLimit
 limit_law = record { read = limit_read; was = limit_was; lacks = limit_lacks }
@@ -117,7 +115,7 @@ cause_lacks byte low Full is = (lacks_low byte low (codes "full") refl, tt)
 
 cause_was : (words : List (List ℕ)) (x : Cause × List (List ℕ)) → cause_at words ≡ Ok x → Took cause_words IsCause words x
 unfolding cause_at
-cause_was words x h = keyed_was cause_words IsCause causes cause_entries words x h
+cause_was words x h = keyed_was cause_words IsCause kind.Word causes cause_entries words x h
 
 cause_law : Words cause_at cause_words IsCause
 cause_law = record { read = cause_read; was = cause_was; lacks = cause_lacks }
@@ -275,7 +273,7 @@ entries = (
 
 kind_was : (words : List (List ℕ)) (x : Line × List (List ℕ)) → kind_at words ≡ Ok x → Took line_words IsLine words x
 unfolding kind_at
-kind_was words x h = keyed_was line_words IsLine kinds entries words x h
+kind_was words x h = keyed_was line_words IsLine kind.Word kinds entries words x h
 
 pub lacks : (byte : ℕ) → byte < 44 → (line : Line) → IsLine line → AllByRecursion (Lacks byte) (line_words line)
 unfolding none_low

@@ -17,7 +17,7 @@ use Rattle.transcript.specs.declared.line.Line.{Line}
 use Rattle.transcript.specs.Spelling.{line_words, line_bytes, lines_text, IsLine}
 use Rattle.transcript.specs.Reading.{line_at}
 use Rattle.transcript.specs.Whole.{Progress, start, judged, after, placed, lines_from, transcript_of, EndsLast, IsTranscript}
-use Rattle.transcript.proofs.FieldLaws.{lacks_joined}
+use Rattle.text_lines.proofs.WordLaws.{lacks_joined}
 use Rattle.transcript.proofs.LineLaws.{lacks, line_at_bytes, line_at_was}
 
 texts : List Line → List (List ℕ)

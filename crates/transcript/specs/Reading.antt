@@ -17,7 +17,8 @@ use Rattle.transcript.specs.declared.kinds.Limit.TheVariants as limit
 use Rattle.transcript.specs.declared.line.ShownState.{ShownState}
 use Rattle.transcript.specs.declared.line.ShownFrame.{ShownFrame}
 use Rattle.transcript.specs.Fields.{number_of, tuple_of, party_of, bytes_of, value_of}
-use Rattle.transcript.specs.Words.{Reader, Fails, one, both, shown, given, unless, by_key, end_at}
+use Rattle.text_lines.specs.Words.{both, shown, given, by_key}
+use Rattle.transcript.specs.Words.{Reader, Fails, one, unless, end_at}
 
 -- ---- fields
 
@@ -88,7 +89,7 @@ abbrev pub limits : List (List ℕ × Reader Limit)
 limits = (codes "ballot", shown limit.Ballot id_at) ∷ (codes "instance", shown limit.Instance id_at) ∷ (codes "attempt", given limit.Attempt) ∷ []
 
 unfoldable pub limit_of : Reader Limit
-limit_of = by_key limits
+limit_of = by_key kind.Word limits
 
 unfoldable pub limit_at : Reader Line
 limit_at = shown limit_line (both id_at limit_of)
@@ -97,7 +98,7 @@ abbrev pub causes : List (List ℕ × Reader Cause)
 causes = (codes "crash", given cause.Crash) ∷ (codes "disk", given cause.Disk) ∷ (codes "full", given cause.Full) ∷ []
 
 unfoldable pub cause_at : Reader Cause
-cause_at = by_key causes
+cause_at = by_key kind.Word causes
 
 unfoldable pub down_at : Reader Line
 down_at = shown (λ x. line.Down (record { 0 = x.0 }) x.1) (both id_at cause_at)
@@ -147,7 +148,7 @@ kinds =
     ∷ kinds_of_recovery
 
 unfoldable pub kind_at : Reader Line
-kind_at = by_key kinds
+kind_at = by_key kind.Word kinds
 
 -- the line of these words, all of the words
 abbrev pub line_in : List (List ℕ) → Result Line LineKind

@@ -2,7 +2,9 @@
 
 ghost use Rattle.std.specs.Prelude.{◌≡◌, ◌∷◌};
 ghost use Rattle.text_lines.specs.Split.{words_of};
-ghost use Rattle.transcript.specs.Words.{Reads, Says, by_key};
+ghost use Rattle.text_lines.specs.Words.{by_key};
+ghost use Rattle.transcript.specs.declared.fault.LineKind.TheVariants.{Word as NoWord};
+ghost use Rattle.transcript.specs.Words.{Reads, Says};
 ghost use Rattle.transcript.specs.Reading.{kinds_of_nodes, kinds_of_recovery, kind_at, line_in, line_of_text, line_at, text_in, Judges};
 
 use crate::kinds::{
@@ -92,7 +94,7 @@ fn read_kind(alloc: Global, words: &mut Words<'_>) -> Result<Line, LineKind>
 // The kinds of checkpoints, trims and recovery, and those of `read_node`.
 #[tactic(auto, unfolding(crate::specs::Reading::kinds_of_recovery))]
 fn read_recovery(alloc: Global, word: &[u8], words: &mut Words<'_>) -> Result<Line, LineKind>
-    ensures { Reads (λ l. l) (by_key kinds_of_recovery (word.now ∷ words.old)) result words.new }
+    ensures { Reads (λ l. l) (by_key NoWord kinds_of_recovery (word.now ∷ words.old)) result words.new }
 {
     if word == b"begin".as_slice() {
         return read_begin(alloc, words);
@@ -118,7 +120,7 @@ fn read_recovery(alloc: Global, word: &[u8], words: &mut Words<'_>) -> Result<Li
 // The kinds of a node's life, and those of states and frames.
 #[tactic(auto, unfolding(crate::specs::Reading::kinds_of_nodes))]
 fn read_node(alloc: Global, word: &[u8], words: &mut Words<'_>) -> Result<Line, LineKind>
-    ensures { Reads (λ l. l) (by_key kinds_of_nodes (word.now ∷ words.old)) result words.new }
+    ensures { Reads (λ l. l) (by_key NoWord kinds_of_nodes (word.now ∷ words.old)) result words.new }
 {
     if word == b"limit".as_slice() {
         return read_limit(words);

@@ -24,7 +24,7 @@ use Rattle.frames.specs.declared.sent.Sent.{Sent}
 use Rattle.transcript.specs.declared.line.Line.{Line}
 use Rattle.transcript.specs.declared.line.Line.TheVariants.{End}
 use Rattle.schedule.specs.declared.event.ScheduleEvent.{ScheduleEvent}
-use Rattle.schedule.specs.declared.event.ScheduleEvent.TheVariants.{Ask, Flow, Lose, Deliver as Delivers, List as Shows}
+use Rattle.schedule.specs.declared.event.ScheduleEvent.TheVariants.{Ask, Flow, Lose, Deliver as Delivers, List as Shows, TickAll, TickNode, TickClient, Lead, Crash, Restart, Fuse, Fail, FailRead, Show}
 use Rattle.world.specs.declared.seat.Seat.{Seat}
 use Rattle.world.specs.Ring.{seat_at, majority, has_bit, with_bit, coordinator}
 use Rattle.world.specs.Learner.{Learner, Learned, nothing_learned, learning}
@@ -342,6 +342,16 @@ happened values before w (Lose count) s = quietly w.ring values before _ (moved 
 happened values before w (Delivers frame) s =
     by_frame (slice_get w.frames frame) values before w s (λ sent is. frame_at values w.frames frame sent s.frames is)
 happened values before w (Shows frame) s = shown w.ring values before w frame s
+happened values before w TickAll s = quietly w.ring values before w s
+happened values before w (TickNode node) s = quietly w.ring values before w s
+happened values before w (TickClient client) s = quietly w.ring values before w s
+happened values before w (Lead node ring) s = quietly w.ring values before w s
+happened values before w (Crash node) s = quietly w.ring values before w s
+happened values before w (Restart node image) s = quietly w.ring values before w s
+happened values before w (Fuse node calls) s = quietly w.ring values before w s
+happened values before w (Fail node calls) s = quietly w.ring values before w s
+happened values before w (FailRead node calls) s = quietly w.ring values before w s
+happened values before w (Show node) s = quietly w.ring values before w s
 
 pub all_exact : (table : RingTable) (values : List (List ℕ)) (before : List Line) (w : World) (events : List ScheduleEvent) (last : List Line) → Sound table values before w →
     ((b : List Line) → IsExactAfter table b last) → IsExactAfter table before (lines_from w events ++ last)

@@ -202,6 +202,7 @@ happens w (Flow count) = flows count w
 happens w (Lose count) = quiet (loses w count)
 happens w (Deliver frame) = delivers w (slice_get w.frames frame)
 happens w (Shows frame) = shows w frame
+happens w other = quiet w
 
 -- what is asked has a spelling
 abbrev pub MayHappen : ScheduleEvent → Type 0

@@ -1,14 +1,16 @@
-//! Which deployments the step is built for so far.
+//! Which deployments and which events the step is built for so far.
 
-ghost use Rattle.std.specs.Prelude.{◌↔◌, IsTrue, IfSome, IfNone, All, Contains};
+ghost use Rattle.std.specs.Prelude.{◌≡◌, ◌↔◌, ◌<◌, length, IsTrue, IfSome, IfNone, All, Contains};
 ghost use Rattle.mrp_config.specs.Config.{Config};
 ghost use Rattle.mrp_config.specs.Valid.{IsValid};
 ghost use Rattle.mrp_config.specs.declared.tables.RingTable.{RingTable as SomeRing};
-ghost use Rattle.world.specs.Built.{IsBuilt, IsBuiltRing, AreSame};
+ghost use Rattle.world.specs.Built.{IsBuilt, IsBuiltRing, AreSame, is_built_event, unbuilt_at};
 ghost use Rattle.world.specs.Ring.{IsRing};
 
+use command_codec::Command;
 use mrp_config::{Deployment, RingTable};
 use mrp_types::NodeId;
+use schedule::{Schedule, ScheduleEvent};
 
 /// The one ring of a deployment that the step is built for: one ring, whose acceptors are the replicas of the one
 /// partition in any order, and no levelling. `None` of any other deployment.
@@ -54,6 +56,28 @@ fn is_among(nodes: &[NodeId], node: NodeId) -> bool
     ensures { IsTrue result ↔ Contains nodes.now node }
 {
     nodes.contains(&node)
+}
+
+/// The index of the first event for which the step isn't built; it is built for asked appends, and for frames that are
+/// delivered, lost and listed.
+pub fn first_unbuilt(schedule: &Schedule) -> Option<usize>
+    ensures first { result ≡ unbuilt_at schedule.now }
+    ensures inside { IfSome result (λ index. index < length schedule.now) }
+{
+    schedule.items().iter().position(|event| !is_built(event))
+}
+
+fn is_built(event: &ScheduleEvent) -> bool
+    ensures { result ≡ is_built_event event.now }
+{
+    match event {
+        ScheduleEvent::Ask { client: _, command } => matches!(command, Command::Append { .. }),
+        ScheduleEvent::Flow { .. } => true,
+        ScheduleEvent::Lose { .. } => true,
+        ScheduleEvent::Deliver { .. } => true,
+        ScheduleEvent::List { .. } => true,
+        _ => false,
+    }
 }
 
 /// The ring of a valid deployment that is built is one of 1 to 7 different acceptors below 32, with an id below 16.

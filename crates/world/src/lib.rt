@@ -1,7 +1,7 @@
 //! The system of one ring: what happens at each event, and what is printed.
 //!
 //! `specs/System.antt` has the rules of the step, `specs/Order.antt` what its lines are good for, `specs/Built.antt`
-//! for which deployments it is built so far.
+//! for which deployments and events it is built so far.
 #![tactic(auto)]
 
 mod built;
@@ -12,7 +12,7 @@ mod rows;
 mod seat;
 mod world;
 
-pub use built::{built_ring, built_rings_are_rings};
+pub use built::{built_ring, built_rings_are_rings, first_unbuilt};
 pub use laws::{deliveries_are_in_turn, lines_are_faithful};
 pub use learner::Learned;
 pub use request::Request;

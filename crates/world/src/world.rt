@@ -371,7 +371,7 @@ impl World {
         })
     }
 
-    /// One event happens; the lines that it prints. After a refusal the world is spent: nothing is said of it.
+    /// One event happens; the lines that it prints. Nothing happens at an event for which the step isn't built. After a refusal the world is spent: nothing is said of it.
     pub fn event(&mut self, event: &ScheduleEvent) -> Result<Lines, Memory>
         requires { MayHappen event.now }
         ensures world { OnOk result (self.new ≡ (happens self.old event.now).world) }
@@ -384,6 +384,7 @@ impl World {
             ScheduleEvent::Lose { count } => self.lose(*count),
             ScheduleEvent::Deliver { frame } => self.deliver(*frame as usize, &mut lines)?,
             ScheduleEvent::List { frame } => lines.push(self.shown(*frame)?)?,
+            _ => (),
         }
         Ok(lines)
     }

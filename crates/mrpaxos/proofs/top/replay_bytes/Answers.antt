@@ -1,13 +1,18 @@
-use Rattle.std.proofs.Common.{inr}
+use Rattle.std.proofs.Common.{inr, sym, ◌∙◌}
 use Rattle.outside.proofs.WritingLemmas.{appended}
 use Rattle.world.proofs.Worlds.{trace_rules}
+use Rattle.mrpaxos.proofs.Runs.{all_may_happen}
 use Rattle.mrpaxos.proofs.top.replay_bytes.Goals as goal
+
+pub replay-requires-clause-events : goal.replay-requires-clause-events
+replay-requires-clause-events g c = all_may_happen c.args.deployment.now c.in-Ok.schedule c.in-Ok.ensures.found.each
 
 pub returns-in-Ok-replay : goal.returns-in-Ok-replay
 returns-in-Ok-replay g c = (
   c.in-Ok.schedule,
   record {
     schedule = c.in-Ok.ensures.found;
+    built = sym c.first_unbuilt.ensures.first ∙ c.in_default.is;
     rules = trace_rules c.args.ring c.in-Ok.schedule;
     text = appended _ _ _ c.in-Ok-replay.ensures.written;
     faults = c.in-Ok-replay.ensures.fault;
@@ -22,6 +27,7 @@ returns-in-Err-Sink g c =
       written.0,
       record {
         schedule = c.in-Ok.ensures.found;
+        built = sym c.first_unbuilt.ensures.first ∙ c.in_default.is;
         rules = trace_rules c.args.ring c.in-Ok.schedule;
         front = written.1.taken;
       },
@@ -37,6 +43,7 @@ returns g c =
       written.0,
       record {
         schedule = c.in-Ok.ensures.found;
+        built = sym c.first_unbuilt.ensures.first ∙ c.in_default.is;
         rules = trace_rules c.args.ring c.in-Ok.schedule;
         front = written.1.taken;
       },
