@@ -145,6 +145,7 @@ module _ (config : Config) (table : RingTable) where
     lines = v.lines;
     done = v.done;
     cast = v.cast;
+    beyond = v.beyond;
     told = λ id p has lt. told_more (ring_of config id table) (owner (acceptors table) p.ballot ≡ seat table id) h.world.frames (h.world.frames ++ frames) p
         (λ x there. has_first h.world.frames frames x there) (v.told id p has lt);
     works = v.works;
@@ -159,6 +160,7 @@ module _ (config : Config) (table : RingTable) where
     lines = appended (IsTold (ring_of config nobody table) (durables late)) h.world.lines lines v.lines told;
     done = v.done;
     cast = v.cast;
+    beyond = v.beyond;
     told = v.told;
     works = v.works;
     read = v.read;
@@ -172,6 +174,7 @@ module _ (config : Config) (table : RingTable) where
     lines = v.lines;
     done = v.done;
     cast = v.cast;
+    beyond = v.beyond;
     told = v.told;
     works = appended (λ (e : NodeId × Work). Has h.done e) h.world.works ((id, work) ∷ []) v.works (has, tt);
     read = v.read;
@@ -185,6 +188,7 @@ module _ (config : Config) (table : RingTable) where
     lines = v.lines;
     done = v.done;
     cast = v.cast;
+    beyond = v.beyond;
     told = v.told;
     works = v.works;
     read = appended (ReadStands table late) h.world.read ((id, state) ∷ []) v.read (was, tt);

@@ -28,14 +28,14 @@ use Rattle.ring_kept.specs.Kept.{told_of}
 use Rattle.protocol.specs.Lines.{Learn}
 use Rattle.protocol.specs.Node.{Work}
 use Rattle.protocol.specs.Rings.{ring_of}
-use Rattle.ring_tables.specs.Ties.{AcceptSaid, IsRangeChosen, IsRecorded, IsTold, PromiseSaid, IsToldIn}
+use Rattle.ring_tables.specs.Ties.{AcceptSaid, IsRangeChosen, IsRecorded, IsTold, PromiseSaid, IsToldIn, IsVotedIn}
 use Rattle.ring_steps.specs.Stands.{ViewStands, changes_in}
 use Rattle.bare_world.specs.Worlds.{Host}
 use Rattle.ring_runs.specs.Histories.{History}
 use Rattle.ring_runs.specs.Rules.{IsToldUpTo, PromiseRule, IsHeldUpTo, KeepsVote, AreCast, VoteRule, DoneRule, HasPromised, Backs, ProposeRule, ChooseRule, OneValueRule, LearnRule}
 use Rattle.ring_runs.specs.Seats.{acceptors, acceptor_at, nobody, position_or, seat, IsDeployed}
 use Rattle.ring_runs.specs.Standing.{HostStands, ReadStands, Tied, WorkStands, WorldStands}
-use Rattle.ring_runs.specs.Votes.{HasCast, HasSent, HasVoted, IsChosen, IsProposed, MayKeep}
+use Rattle.ring_runs.specs.Votes.{HasCast, IsInStopped, HasSent, HasVoted, IsChosen, IsProposed, MayKeep}
 use Rattle.ring_runs.proofs.Growing.{later_grows, one_of}
 use Rattle.ring_runs.proofs.Reading.{Shown, shown, sent_said, cast_there, was_cast, was_cast_at, voted_there, offered, vote_proposed, is_chosen, chosen_there}
 use Rattle.ring_runs.proofs.Static.{seat_at}
@@ -110,12 +110,38 @@ module _ (config : Config) (table : RingTable) (d : IsDeployed config table) (w 
             (subst (λ (x : ℕ). Has (durables w x).promises (back.backing.promise k)) (sym (seat_at config table d k lt)) has) (omega arith))
         go (inr own) = inr own.0
 
+    -- and what it told was cast, or its own step that was stopped has recorded it
+    reported : (k : ℕ) → k < acceptors table → back.backing.members k ≡ true → (vote : Vote Value) → (back.backing.promise k).told i ≡ Some vote
+        → HasCast table h (acceptor_at table k) vote.ballot i vote.value
+        ⊎ ((k ≡ owner (acceptors table) ballot) × IsInStopped table h (acceptor_at table k) vote.ballot i vote.value)
+    reported k lt is vote e = go (back.backing.made k lt is)
+      where
+        beyond : k ≡ owner (acceptors table) ballot
+            → Has (durables w (seat table (acceptor_at table k))).casts (proposal vote.ballot i vote.value)
+            ⊎ IsVotedIn table.id (changes_in (h.stopped (acceptor_at table k).0)) (proposal vote.ballot i vote.value)
+            → HasCast table h (acceptor_at table k) vote.ballot i vote.value
+            ⊎ ((k ≡ owner (acceptors table) ballot) × IsInStopped table h (acceptor_at table k) vote.ballot i vote.value)
+        beyond own (inl has) = inl (was_cast config table d w sound h t (acceptor_at table k) vote.ballot i vote.value has)
+        beyond own (inr v) = inr (own, record { vote = v.vote; recorded = v.there; from = v.from; to = v.to; of_ballot = v.of_ballot; of_value = v.of_value })
+
+        go : deeds.IsPromised (durables w) (owner (acceptors table) ballot) (w (owner (acceptors table) ballot)).pending k (back.backing.promise k)
+            → HasCast table h (acceptor_at table k) vote.ballot i vote.value
+            ⊎ ((k ≡ owner (acceptors table) ballot) × IsInStopped table h (acceptor_at table k) vote.ballot i vote.value)
+        go (inl has) =
+            inl (was_cast_at config table d w sound h t k vote.ballot i vote.value lt ((sound.durable k).told_cast (back.backing.promise k) has i vote e))
+        go (inr own) =
+            let cast : Has (w k).pending.casts (proposal vote.ballot i vote.value) =
+            (sound.pending k).told_cast (back.backing.promise k) (said_there k (back.backing.promise k) (inr own)) i vote e in
+            beyond own.0 (t.beyond (acceptor_at table k) (proposal vote.ballot i vote.value)
+            (subst (λ (x : ℕ). Has (w x).pending.casts (proposal vote.ballot i vote.value)) (sym (seat_at config table d k lt)) cast))
+
     backs : Backs table h ballot i value
     backs = record {
       members = back.backing.members;
       majority = back.backing.majority;
       report = λ k. (back.backing.promise k).told i;
       promised = promised;
+      cast = reported;
       lower = back.lower;
       outdone = told_there;
       due = back.backing.due;

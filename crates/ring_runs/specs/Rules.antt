@@ -23,7 +23,7 @@ use Rattle.bare_world.specs.Worlds.{Up}
 use Rattle.ring_steps.specs.Stands.{changes_in}
 use Rattle.ring_runs.specs.Histories.{History}
 use Rattle.ring_runs.specs.Seats.{acceptors, acceptor_at}
-use Rattle.ring_runs.specs.Votes.{MayKeep, HasSent, IsAcceptor, HasCast, HasVoted, IsProposed, IsChosenIn, IsChosen}
+use Rattle.ring_runs.specs.Votes.{MayKeep, HasSent, IsAcceptor, HasCast, IsInStopped, HasVoted, IsProposed, IsChosenIn, IsChosen}
 
 -- ---- Promise
 
@@ -100,13 +100,17 @@ pub record HasPromised (table : RingTable) (h : History) (id : NodeId) (ballot i
   pub reports : report ≡ told_of (cast_at i votes)
 
 -- A majority of acceptors stands behind a proposal: each has sent a promise of the ballot for the instance, or is the ballot's owner,
--- whose start is one. What they report there is of lower ballots, and outdoes each vote of a lower ballot that they ever cast or
--- hold there. The value is that of the highest report, where there is one.
+-- whose start is one. What they report there is a vote of a lower ballot that they have cast, and outdoes each vote of a lower
+-- ballot that they ever cast or hold there. A start that was stopped may report a vote that its own step recorded. The value is
+-- that of the highest report, where there is one.
 pub record Backs (table : RingTable) (h : History) (ballot i : ℕ) (value : Value) : Type 0 where
   pub members : ℕ → Bool
   pub majority : IsMajority (acceptors table) members
   pub report : ℕ → Option (Vote Value)
   pub promised : (k : ℕ) → k < acceptors table → members k ≡ true → HasPromised table h (acceptor_at table k) ballot i (report k) ⊎ (k ≡ owner (acceptors table) ballot)
+  pub cast : (k : ℕ) → k < acceptors table → members k ≡ true → (vote : Vote Value) → report k ≡ Some vote
+      → HasCast table h (acceptor_at table k) vote.ballot i vote.value
+      ⊎ ((k ≡ owner (acceptors table) ballot) × IsInStopped table h (acceptor_at table k) vote.ballot i vote.value)
   pub lower : (k : ℕ) → k < acceptors table → members k ≡ true → rank (report k) ≤ ballot
   pub outdone : (k : ℕ) → k < acceptors table → members k ≡ true → (below : ℕ) (other : Value) → HasVoted table h (acceptor_at table k) below i other → below < ballot
       → below < rank (report k)

@@ -71,6 +71,9 @@ pub record WorldStands (config : Config) (table : RingTable) (w : machine.World 
   -- what is done stands in durable faces, and each vote of a durable face is done
   pub done : AllByRecursion (WorkStands table w) h.done
   pub cast : (id : NodeId) (c : Proposal Value) → Has (durables w (seat table id)).casts c → IsDoneBy table h.done id c
+  -- what a pending face has cast beyond the durable one, its node's stopped step has recorded
+  pub beyond : (id : NodeId) (c : Proposal Value) → Has (w (seat table id)).pending.casts c
+      → Has (durables w (seat table id)).casts c ⊎ IsVotedIn table.id (changes_in (h.stopped id.0)) c
   -- each promise of a durable face with a page was sent, or is a start of its node's own
   pub told : (id : NodeId) (p : Promise Value) → Has (durables w (seat table id)).promises p → p.low < p.high
       → (owner (acceptors table) p.ballot ≡ seat table id) ⊎ IsToldIn (ring_of config id table) h.world.frames p

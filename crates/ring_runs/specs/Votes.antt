@@ -52,6 +52,15 @@ pub record HasCast (table : RingTable) (h : History) (id : NodeId) (ballot i : �
   pub of_ballot : ballot ≡ vote.ballot
   pub of_value : value ≡ vote.value
 
+-- The step of the node that was stopped recorded the vote; its next restart may find that record on the disk, or not.
+pub record IsInStopped (table : RingTable) (h : History) (id : NodeId) (ballot i : ℕ) (value : Value) : Type 0 where
+  pub vote : Voted
+  pub recorded : Has (changes_in (h.stopped id.0)) (change.Vote table.id vote)
+  pub from : vote.lo ≤ i
+  pub to : i < vote.hi
+  pub of_ballot : ballot ≡ vote.ballot
+  pub of_value : value ≡ vote.value
+
 -- a possible state of the node holds a vote
 pub record MayHold (table : RingTable) (h : History) (id : NodeId) (ballot i : ℕ) (value : Value) : Type 0 where
   pub state : State

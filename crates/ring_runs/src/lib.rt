@@ -57,7 +57,8 @@ pub fn what_is_done_is_kept()
 
 /// Propose: in one ballot and instance all proposals have one value; and a majority of acceptors has sent promises of the ballot, of
 /// its owner this is its start, whose pages hold the instance and whose trims aren't above it, and the value is that of the
-/// highest vote of a lower ballot that they report there, where they report one.
+/// highest vote of a lower ballot that they report there, where they report one. A vote that a member reports was cast by it, or,
+/// of the owner alone, recorded by its step that was stopped.
 pub fn propose()
     ensures { (config : Config) (table : RingTable) → IsValid config → Has config.rings table → (xs : List Happening) → MayRun config nothing xs → ProposeRule table (history config xs at_first) }
 {}
