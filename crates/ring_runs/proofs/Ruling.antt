@@ -280,14 +280,29 @@ module _ (config : Config) (table : RingTable) (d : IsDeployed config table) (fr
         let on = (either_face (acceptors table) after.machine_world after.sound (seat table id) s.face s.is).grown.promise in
         let face : s.face.promise ≡ (ring_at state table.id).promise = s.ties.promise in
         omega arith;
+    trimmed = λ id work inst has recorded state keeps.
+        let s : Shown table after.machine_world id state = shown_late id state keeps in
+        let all : WorkStands table t.machine_world (id, work) = one_of (WorkStands table t.machine_world) early.done (id, work) has t.stands.done in
+        let low : inst ≤ (durables t.machine_world (seat table id)).trim =
+        one_of (IsRecorded table.id (durables t.machine_world (seat table id))) (changes_in work) (change.Trim table.id inst) recorded all refl in
+        let up = (more (seat table id)).trim in
+        let on = (either_face (acceptors table) after.machine_world after.sound (seat table id) s.face s.is).grown.trim in
+        let face : s.face.trim ≡ (ring_at state table.id).trim = s.ties.trim in
+        omega arith;
     kept = λ id before has state keeps.
         let s : Shown table after.machine_world id state = shown_late id state keeps in
         let r : ReadStands table t.machine_world (id, before) = one_of (ReadStands table t.machine_world) early.world.read (id, before) has t.stands.read in
         let low = r.promise in
-        let up = (more (seat table id)).promise in
-        let on = (either_face (acceptors table) after.machine_world after.sound (seat table id) s.face s.is).grown.promise in
+        let low_trim = r.trim in
+        let up : Grows (durables t.machine_world (seat table id)) (durables after.machine_world (seat table id)) = more (seat table id) in
+        let up_promise = up.promise in
+        let up_trim = up.trim in
+        let on = (either_face (acceptors table) after.machine_world after.sound (seat table id) s.face s.is).grown in
+        let on_promise = on.promise in
+        let on_trim = on.trim in
         let face : s.face.promise ≡ (ring_at state table.id).promise = s.ties.promise in
-        omega arith;
+        let face_trim : s.face.trim ≡ (ring_at state table.id).trim = s.ties.trim in
+        (omega arith, omega arith);
   }
 
   pub choose_rule : ChooseRule table early late

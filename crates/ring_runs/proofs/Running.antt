@@ -67,6 +67,7 @@ stopped_elsewhere id other work f ne = let e : (other.0 == id.0) ≡ false = gri
 still_recorded : (id : RingId) (f : Face Value) (promises : List (Promise Value)) (c : Change) → IsRecorded id f c → IsRecorded id (with_promises promises f) c
 still_recorded id f promises (change.Promise r ballot) s = s
 still_recorded id f promises (change.Vote r vote) s = s
+still_recorded id f promises (change.Trim r inst) s = s
 still_recorded id f promises other s = tt
 
 same_node : (node : machine.Node Value) (durable pending : Face Value) → node.durable ≡ durable → node.pending ≡ pending

@@ -74,15 +74,18 @@ pub record VoteRule (table : RingTable) (early late : History) : Type 0 where
 
 -- ---- what counts as done
 
--- What a step recorded that ended well is done, and each vote that an opening read was cast; the promises among them are kept.
+-- What a step recorded that ended well is done, and each vote that an opening read was cast; the promises and the trims among them
+-- are kept.
 pub record DoneRule (table : RingTable) (early late : History) : Type 0 where
   pub works : (id : NodeId) (work : Work) → Has early.world.works (id, work) → Has early.done (id, work)
   pub read : (id : NodeId) (state : State) → Has early.world.read (id, state) → (i : ℕ) (vote : Cast) → value_at i (ring_at state table.id).votes ≡ Some vote
       → HasCast table early id vote.ballot i vote.value
   pub promised : (id : NodeId) (work : Work) (ballot : ℕ) → Has early.done (id, work) → Has (changes_in work) (change.Promise table.id ballot)
       → (state : State) → MayKeep (late.world.hosts id.0) state → ballot ≤ (ring_at state table.id).promise
+  pub trimmed : (id : NodeId) (work : Work) (inst : ℕ) → Has early.done (id, work) → Has (changes_in work) (change.Trim table.id inst)
+      → (state : State) → MayKeep (late.world.hosts id.0) state → inst ≤ (ring_at state table.id).trim
   pub kept : (id : NodeId) (before : State) → Has early.world.read (id, before) → (state : State) → MayKeep (late.world.hosts id.0) state
-      → (ring_at before table.id).promise ≤ (ring_at state table.id).promise
+      → ((ring_at before table.id).promise ≤ (ring_at state table.id).promise) × ((ring_at before table.id).trim ≤ (ring_at state table.id).trim)
 
 -- ---- Propose
 

@@ -48,9 +48,10 @@ HostStands config table w id stopped (Down durable pending) = DownStands table (
 abbrev pub WorkStands : RingTable → machine.World Value → NodeId × Work → Type 0
 WorkStands table w done = AllByRecursion (IsRecorded table.id (w (seat table done.0)).durable) (changes_in done.1)
 
--- what an opening has read: its promise is kept, and its votes were cast
+-- what an opening has read: its promise and its trim are kept, and its votes were cast
 pub record IsReadIn (f : Face Value) (kept : RingState) : Type 0 where
   pub promise : kept.promise ≤ f.promise
+  pub trim : kept.trim ≤ f.trim
   pub cast : (i : ℕ) (cast : Cast) → value_at i kept.votes ≡ Some cast → Has f.casts (proposal cast.ballot i cast.value)
 
 abbrev pub ReadStands : RingTable → machine.World Value → NodeId × State → Type 0

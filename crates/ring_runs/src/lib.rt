@@ -48,8 +48,8 @@ pub fn vote()
         → MayRun config (history config xs at_first).world ys → VoteRule table (history config xs at_first) (history config ys (history config xs at_first)) }
 {}
 
-/// What counts as done: the work of each step that ended well is, and each vote that an opening read was cast. A promise that was
-/// recorded so, or read, is kept in every possible state, for ever.
+/// What counts as done: the work of each step that ended well is, and each vote that an opening read was cast. A promise and a trim
+/// that were recorded so, or read, are kept in every possible state, for ever.
 pub fn what_is_done_is_kept()
     ensures { (config : Config) (table : RingTable) → IsValid config → Has config.rings table → (xs ys : List Happening) → MayRun config nothing xs
         → MayRun config (history config xs at_first).world ys → DoneRule table (history config xs at_first) (history config ys (history config xs at_first)) }
