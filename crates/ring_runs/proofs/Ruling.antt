@@ -29,7 +29,8 @@ use Rattle.protocol.specs.Lines.{Learn}
 use Rattle.protocol.specs.Node.{Work}
 use Rattle.protocol.specs.Rings.{ring_of}
 use Rattle.ring_tables.specs.Ties.{AcceptSaid, IsRangeChosen, IsRecorded, IsTold, PromiseSaid, IsToldIn, IsVotedIn}
-use Rattle.ring_steps.specs.Stands.{ViewStands, changes_in}
+use Rattle.beside_rings.specs.Beside.{changes_in}
+use Rattle.ring_steps.specs.Stands.{ViewStands}
 use Rattle.bare_world.specs.Worlds.{Host}
 use Rattle.ring_runs.specs.Histories.{History}
 use Rattle.ring_runs.specs.Rules.{IsToldUpTo, PromiseRule, IsHeldUpTo, KeepsVote, AreCast, VoteRule, DoneRule, HasPromised, Backs, ProposeRule, ChooseRule, OneValueRule, LearnRule}

@@ -39,7 +39,8 @@ use Rattle.protocol.specs.Node.{View, Event, Ticks, Takes, Leads, Stepped, Work,
 use Rattle.protocol.specs.Opening.{opened}
 use Rattle.protocol.specs.Rings.{ring_of}
 use Rattle.protocol.specs.Step.{step}
-use Rattle.ring_steps.specs.Stands.{changes_in, ViewStands, EventSaid, StepStands}
+use Rattle.beside_rings.specs.Beside.{changes_in}
+use Rattle.ring_steps.specs.Stands.{ViewStands, EventSaid, StepStands}
 use Rattle.ring_tables.specs.Ties.{SaidBy, IsSaid, IsTold, IsRecorded, IsVotedIn, AreRecorded, IsToldIn}
 use Rattle.ring_steps.proofs.Ending.{step_stands}
 use Rattle.ring_tables.proofs.More.{appended, mapped, all_said_more, all_told_more, all_recorded_more, none_recorded}

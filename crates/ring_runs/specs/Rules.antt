@@ -20,7 +20,7 @@ use Rattle.protocol.specs.Lines.{Learn}
 use Rattle.protocol.specs.Node.{View, RingPart, Work, part_at}
 use Rattle.protocol.specs.Rings.{has_bit}
 use Rattle.bare_world.specs.Worlds.{Up}
-use Rattle.ring_steps.specs.Stands.{changes_in}
+use Rattle.beside_rings.specs.Beside.{changes_in}
 use Rattle.ring_runs.specs.Histories.{History}
 use Rattle.ring_runs.specs.Seats.{acceptors, acceptor_at}
 use Rattle.ring_runs.specs.Votes.{MayKeep, HasSent, IsAcceptor, HasCast, IsInStopped, HasVoted, IsProposed, IsChosenIn, IsChosen}

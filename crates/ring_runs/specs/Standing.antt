@@ -19,7 +19,8 @@ use Rattle.ring_kept.specs.Kept.{KeptTies}
 use Rattle.protocol.specs.Rings.{ring_of}
 use Rattle.protocol.specs.Node.{Work}
 use Rattle.ring_tables.specs.Ties.{IsSaid, IsTold, IsRecorded, IsVotedIn, IsToldIn, AreRecorded}
-use Rattle.ring_steps.specs.Stands.{ViewStands, changes_in}
+use Rattle.beside_rings.specs.Beside.{changes_in}
+use Rattle.ring_steps.specs.Stands.{ViewStands}
 use Rattle.bare_world.specs.Worlds.{Host, Up, Down}
 use Rattle.ring_runs.specs.Histories.{History}
 use Rattle.ring_runs.specs.Seats.{acceptors, nobody, seat}

@@ -15,7 +15,7 @@ use Rattle.vote_state.specs.declared.change.Change.TheVariants as change
 use Rattle.vote_state.specs.State.{State, ring_at}
 use Rattle.ring_safety.specs.Faces.{owner}
 use Rattle.protocol.specs.Node.{Work}
-use Rattle.ring_steps.specs.Stands.{changes_in}
+use Rattle.beside_rings.specs.Beside.{changes_in}
 use Rattle.bare_world.specs.Worlds.{Host, Up, Down}
 use Rattle.ring_runs.specs.Histories.{History}
 use Rattle.ring_runs.specs.Seats.{acceptors, acceptor_at}
@@ -73,7 +73,7 @@ HasVoted table h id ballot i value = HasCast table h id ballot i value ⊎ MayHo
 -- ---- proposals
 
 -- an Accept frame has asked for votes
-pub record IsAsked (table : RingTable) (h : History) (ballot i : ℕ) (value : Value) : Type 0 where
+pub record IsInAccept (table : RingTable) (h : History) (ballot i : ℕ) (value : Value) : Type 0 where
   pub from : NodeId
   pub lo : ℕ
   pub hi : ℕ
@@ -90,7 +90,7 @@ pub record IsOwners (table : RingTable) (h : History) (ballot i : ℕ) (value : 
 
 -- The value is proposed at the instance in the ballot.
 abbrev pub IsProposed : RingTable → History → (ballot i : ℕ) → Value → Type 0
-IsProposed table h ballot i value = IsAsked table h ballot i value ⊎ IsOwners table h ballot i value
+IsProposed table h ballot i value = IsInAccept table h ballot i value ⊎ IsOwners table h ballot i value
 
 -- ---- what is chosen
 

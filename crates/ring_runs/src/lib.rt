@@ -17,7 +17,7 @@ ghost use Rattle.ring_safety.specs.Worlds as machine;
 ghost use Rattle.bare_world.specs.Runs.{MayRun, run};
 ghost use Rattle.bare_world.specs.Worlds.{Happening, nothing};
 ghost use Rattle.ring_runs.specs.Histories.{History, at_first, history};
-ghost use Rattle.ring_runs.specs.Lines.{AreFaithful};
+ghost use Rattle.ring_runs.specs.Lines.{LearnLinesKeepF1};
 ghost use Rattle.ring_runs.specs.Rules.{ChooseRule, DoneRule, LearnRule, OneValueRule, PromiseRule, ProposeRule, VoteRule};
 ghost use Rattle.ring_runs.specs.Standing.{Tied};
 
@@ -85,5 +85,5 @@ pub fn learn()
 /// end of all instances at most and has a batch only alone, and has the value of each earlier learn line of the ring that covers
 /// an instance of it.
 pub fn learn_lines_are_faithful()
-    ensures { (config : Config) → IsValid config → (xs : List Happening) → MayRun config nothing xs → AreFaithful config (run config xs nothing).lines }
+    ensures { (config : Config) → IsValid config → (xs : List Happening) → MayRun config nothing xs → LearnLinesKeepF1 config (run config xs nothing).lines }
 {}

@@ -12,7 +12,7 @@ use Rattle.ring_safety.specs.Faces.{Face}
 use Rattle.ring_kept.specs.Kept.{KeptTies}
 use Rattle.ring_tables.specs.Ties.{acceptors, PartTies, SaidBy, IsSaid, IsTold, AreRecorded, AreTold}
 use Rattle.ring_tables.specs.Settled.{PartFine}
-pub use Rattle.beside_rings.specs.Beside.{changes_in}
+use Rattle.beside_rings.specs.Beside.{changes_in}
 
 pub record PartStands (ring : Ring) (now : ℕ → Face Value) (f : Face Value) (view : View) (p : RingPart) : Type 0 where
   pub of_ring : p.ring ≡ ring

@@ -168,8 +168,8 @@ module _ (config : Config) (id : NodeId) (numbered : AreNumbered config) where
             let lt = news_some ring p.part range news in
             let taken : Acting = with_part ring (learns ring p.part range).part a in
             let told : Acting = prints (Learn a.view.id ring.id range.lo range.hi range.value ∷ []) taken in
-            let line : LearnValid config id a.view.id ring.id (record { lo = range.lo; hi = range.hi; value = range.value }) =
-            (let d = may lt in record { own = v.own; ring = ring; of_ring = m; named = refl; some = lt; decided = record { end = d.end; alone = d.alone; value = d.value } }) in
+            let line : LearnValid config id ring.id (record { lo = range.lo; hi = range.hi; value = range.value }) =
+            (let d = may lt in record { ring = ring; of_ring = m; named = refl; some = lt; decided = record { end = d.end; alone = d.alone; value = d.value } }) in
             let printed : ActingValid config id told = record {
               own = now.own;
               state = now.state;
@@ -177,7 +177,7 @@ module _ (config : Config) (id : NodeId) (numbered : AreNumbered config) where
               changes = now.changes;
               frames = now.frames;
               replies = now.replies;
-              lines = append_all (LineValid config id) a.lines (Learn a.view.id ring.id range.lo range.hi range.value ∷ []) now.lines (line, tt);
+              lines = append_all (LineValid config id) a.lines (Learn a.view.id ring.id range.lo range.hi range.value ∷ []) now.lines ((v.own, line), tt);
             } in
             proposes_valid later (part_at (merges config told).view ring.id) (merges config told) refl all (untouched_valid config id told (merges config told) (merges_untouched config told) printed)
 

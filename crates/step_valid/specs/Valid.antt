@@ -112,17 +112,17 @@ pub record ViewValid (config : Config) (view : View) : Type 0 where
   pub state : IsState view.journal.state
   pub parts : AllByRecursion (MemberValid config view.id) view.parts
 
--- a learn line names the node and a ring of which it is a member; its range isn't empty
-pub record LearnValid (config : Config) (id node : NodeId) (r : RingId) (range : Decided) : Type 0 where
-  pub own : node ≡ id
+-- a node learns of a ring of which it is a member; the range isn't empty
+pub record LearnValid (config : Config) (node : NodeId) (r : RingId) (range : Decided) : Type 0 where
   pub ring : Ring
-  pub of_ring : IsMemberOf config id ring
+  pub of_ring : IsMemberOf config node ring
   pub named : r ≡ ring.id
   pub some : range.lo < range.hi
   pub decided : IsDecided range
 
+-- a learn line names its own node
 abbrev pub LineValid : Config → NodeId → Line → Type 0
-LineValid config id (Learn node r lo hi value) = LearnValid config id node r (record { lo = lo; hi = hi; value = value })
+LineValid config id (Learn node r lo hi value) = (node ≡ id) × LearnValid config id r (record { lo = lo; hi = hi; value = value })
 LineValid config id other = Unit {0}
 
 -- ---- steps
