@@ -1,6 +1,7 @@
 pub mod Static
 pub mod Deployed
 pub mod Clients
+pub mod Adding
 pub mod Growing
 pub mod Running
 pub mod Reading

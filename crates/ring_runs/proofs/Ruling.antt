@@ -33,10 +33,11 @@ use Rattle.beside_rings.specs.Beside.{changes_in}
 use Rattle.ring_steps.specs.Stands.{ViewStands}
 use Rattle.bare_world.specs.Worlds.{Host}
 use Rattle.ring_runs.specs.Histories.{History}
-use Rattle.ring_runs.specs.Rules.{IsToldUpTo, PromiseRule, IsHeldUpTo, KeepsVote, AreCast, VoteRule, DoneRule, HasPromised, Backs, ProposeRule, ChooseRule, OneValueRule, LearnRule}
+use Rattle.ring_runs.specs.Rules.{IsToldUpTo, PromiseRule, IsHeldUpTo, KeepsVote, AreCast, VoteRule, DoneRule, HasPromised, Backs, ProposeRule, ChooseRule, OneValueRule, LearnRule, AddsNoneBelow, StartRule}
 use Rattle.ring_runs.specs.Seats.{acceptors, acceptor_at, nobody, position_or, seat, IsDeployed}
 use Rattle.ring_runs.specs.Standing.{HostStands, ReadStands, Tied, WorkStands, WorldStands}
 use Rattle.ring_runs.specs.Votes.{HasCast, IsInStopped, HasSent, HasVoted, IsChosen, IsProposed, MayKeep}
+use Rattle.ring_runs.proofs.Adding.{Adds, BothAdd, both_run, reached_adds}
 use Rattle.ring_runs.proofs.Growing.{later_grows, one_of}
 use Rattle.ring_runs.proofs.Reading.{Shown, shown, sent_said, cast_there, was_cast, was_cast_at, voted_there, offered, vote_proposed, is_chosen, chosen_there}
 use Rattle.ring_runs.proofs.Static.{seat_at}
@@ -321,3 +322,35 @@ module _ (config : Config) (table : RingTable) (d : IsDeployed config table) (fr
       (Chosen-more (acceptors table) (durables t.machine_world) (durables after.machine_world) more (proposal c.ballot i u)
       (chosen_there config table d t.machine_world t.sound early t.stands c.ballot i u c.chosen))
       (chosen_there config table d after.machine_world after.sound late after.stands e.ballot i v e.chosen) refl
+
+-- ---- what is added to an earlier history that a run reaches from nothing
+
+module _ (config : Config) (table : RingTable) (d : IsDeployed config table) (early late : History)
+    (t : Tied config table machine.empty early) (after : Tied config table t.machine_world late) where
+  adds : (k : ℕ) → Adds (durables t.machine_world k) (after.machine_world k).pending
+  adds k =
+      let first : BothAdd (t.machine_world k).durable (t.machine_world k) =
+      subst (λ (x : machine.World Value). BothAdd (x k).durable (x k)) t.later.is (reached_adds (acceptors table) t.later.events t.later.can k) in
+      let second : BothAdd (t.machine_world k).durable (after.machine_world k) =
+      subst (λ (x : machine.World Value). BothAdd (t.machine_world k).durable (x k)) after.later.is
+      (both_run (acceptors table) (t.machine_world k).durable k t.machine_world first after.later.events after.later.can) in
+      second.pending
+
+  none_below : (id : NodeId) (ballot : ℕ) → ballot ≤ (durables t.machine_world (seat table id)).promise → AddsNoneBelow table early late id ballot
+  none_below id ballot low lower i value v less =
+      go ((adds (seat table id)).casts (proposal lower i value) (voted_there config table d after.machine_world after.sound late after.stands id lower i value v))
+    where
+      go : Has (durables t.machine_world (seat table id)).casts (proposal lower i value) ⊎ ((durables t.machine_world (seat table id)).promise ≤ lower) → HasCast table early id lower i value
+      go (inl has) = was_cast config table d t.machine_world t.sound early t.stands id lower i value has
+      go (inr le) = absurd (omega arith)
+
+  pub start_rule : StartRule table early late
+  start_rule = record {
+    recorded = λ id work ballot has recorded.
+        let all : WorkStands table t.machine_world (id, work) = one_of (WorkStands table t.machine_world) early.done (id, work) has t.stands.done in
+        none_below id ballot
+        (one_of (IsRecorded table.id (durables t.machine_world (seat table id))) (changes_in work) (change.Promise table.id ballot) recorded all refl);
+    read = λ id state has.
+        let r : ReadStands table t.machine_world (id, state) = one_of (ReadStands table t.machine_world) early.world.read (id, state) has t.stands.read in
+        none_below id (ring_at state table.id).promise r.promise;
+  }

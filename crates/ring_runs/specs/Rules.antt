@@ -87,6 +87,18 @@ pub record DoneRule (table : RingTable) (early late : History) : Type 0 where
   pub kept : (id : NodeId) (before : State) → Has early.world.read (id, before) → (state : State) → MayKeep (late.world.hosts id.0) state
       → ((ring_at before table.id).promise ≤ (ring_at state table.id).promise) × ((ring_at before table.id).trim ≤ (ring_at state table.id).trim)
 
+-- ---- Start
+
+-- From the earlier history on the acceptor casts no vote below the ballot: each that it has cast or holds later it had cast by then.
+abbrev pub AddsNoneBelow : RingTable → History → History → NodeId → ℕ → Type 0
+AddsNoneBelow table early late id ballot = (lower i : ℕ) (value : Value) → HasVoted table late id lower i value → lower < ballot → HasCast table early id lower i value
+
+-- What a promise of a ballot is worth that a done work has recorded, as a start does, or that an opening has read.
+pub record StartRule (table : RingTable) (early late : History) : Type 0 where
+  pub recorded : (id : NodeId) (work : Work) (ballot : ℕ) → Has early.done (id, work) → Has (changes_in work) (change.Promise table.id ballot)
+      → AddsNoneBelow table early late id ballot
+  pub read : (id : NodeId) (state : State) → Has early.world.read (id, state) → AddsNoneBelow table early late id (ring_at state table.id).promise
+
 -- ---- Propose
 
 -- An acceptor has sent a promise of the ballot in a frame, whose page holds the instance and whose trim isn't above it, and which

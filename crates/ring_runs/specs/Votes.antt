@@ -41,7 +41,8 @@ pub record IsAcceptor (table : RingTable) (id : NodeId) : Type 0 where
 
 -- ---- votes
 
--- The node has cast a vote: a step recorded it that ended well, or that was stopped and that a restart found on the disk.
+-- The node has cast a vote: a step recorded it that ended well, or that was stopped and that a restart found on the disk, also where
+-- the opening of that restart failed, or where that step itself overwrote the vote or let it go.
 pub record HasCast (table : RingTable) (h : History) (id : NodeId) (ballot i : ℕ) (value : Value) : Type 0 where
   pub work : Work
   pub there : Has h.done (id, work)

@@ -18,7 +18,7 @@ ghost use Rattle.bare_world.specs.Runs.{MayRun, run};
 ghost use Rattle.bare_world.specs.Worlds.{Happening, nothing};
 ghost use Rattle.ring_runs.specs.Histories.{History, at_first, history};
 ghost use Rattle.ring_runs.specs.Lines.{LearnLinesKeepF1};
-ghost use Rattle.ring_runs.specs.Rules.{ChooseRule, DoneRule, LearnRule, OneValueRule, PromiseRule, ProposeRule, VoteRule};
+ghost use Rattle.ring_runs.specs.Rules.{ChooseRule, DoneRule, LearnRule, OneValueRule, PromiseRule, ProposeRule, StartRule, VoteRule};
 ghost use Rattle.ring_runs.specs.Standing.{Tied};
 
 /// The world of a history is the one that the run reaches.
@@ -53,6 +53,13 @@ pub fn vote()
 pub fn what_is_done_is_kept()
     ensures { (config : Config) (table : RingTable) → IsValid config → Has config.rings table → (xs ys : List Happening) → MayRun config nothing xs
         → MayRun config (history config xs at_first).world ys → DoneRule table (history config xs at_first) (history config ys (history config xs at_first)) }
+{}
+
+/// Start: a promise that a done work has recorded, as the start of a ballot does, or that an opening has read, forbids what a sent
+/// one does: from then on its acceptor casts no vote of a lower ballot.
+pub fn start()
+    ensures { (config : Config) (table : RingTable) → IsValid config → Has config.rings table → (xs ys : List Happening) → MayRun config nothing xs
+        → MayRun config (history config xs at_first).world ys → StartRule table (history config xs at_first) (history config ys (history config xs at_first)) }
 {}
 
 /// Propose: in one ballot and instance all proposals have one value; and a majority of acceptors has sent promises of the ballot, of
