@@ -1,5 +1,5 @@
 -- What votes the machine's nodes add: none of a ballot below a promise that stands in a durable face.
-use Rattle.std.proofs.Common.{◌≡◌, ◌⊎◌, inl, inr, ℕ, ◌≤◌, Bool, true, false, cond, nat_eq, List, [], ◌∷◌, refl, sym, ap, subst, arith}
+use Rattle.std.proofs.Common.{◌≡◌, ◌⊎◌, inl, inr, ℕ, ◌≤◌, Bool, true, false, cond, nat_eq, List, [], ◌∷◌, refl, sym, subst, arith}
 use Rattle.std.proofs.lemmas.Bool.Decides.{nat_tests}
 use Rattle.quorums.specs.Groups.{Has}
 use Rattle.ring_safety.specs.Deeds.{Deed, Promises, Starts, Proposes, Votes, Trims, May, MayAll, done, all_done}
@@ -70,15 +70,15 @@ module _ {V : Type 0} where
   both_happens n w f k b (Step a deeds) can =
       changed (BothAdd f) w a k (record { durable = all_done deeds (w a).durable; pending = all_done deeds (w a).durable })
       (λ e. let here = subst (λ (x : ℕ). BothAdd f (w x)) e b in
-        let on = Adds-trans f (w a).durable (all_done deeds (w a).durable) here.durable (adds_all n (durables w) a (w a).durable deeds can) in
-        record { durable = on; pending = on }) b
+      let on = Adds-trans f (w a).durable (all_done deeds (w a).durable) here.durable (adds_all n (durables w) a (w a).durable deeds can) in
+      record { durable = on; pending = on }) b
   both_happens n w f k b (Stopped a deeds) can =
       changed (BothAdd f) w a k (record { durable = (w a).durable; pending = all_done deeds (w a).durable })
       (λ e. let here = subst (λ (x : ℕ). BothAdd f (w x)) e b in
-        record {
-          durable = here.durable;
-          pending = Adds-trans f (w a).durable (all_done deeds (w a).durable) here.durable (adds_all n (durables w) a (w a).durable deeds can);
-        }) b
+      record {
+        durable = here.durable;
+        pending = Adds-trans f (w a).durable (all_done deeds (w a).durable) here.durable (adds_all n (durables w) a (w a).durable deeds can);
+      }) b
   both_happens n w f k b (Before a) can =
       changed (BothAdd f) w a k (record { durable = (w a).durable; pending = (w a).durable })
       (λ e. let here = subst (λ (x : ℕ). BothAdd f (w x)) e b in record { durable = here.durable; pending = here.durable }) b

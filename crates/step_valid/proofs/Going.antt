@@ -14,7 +14,7 @@ use Rattle.vote_journal.specs.Journal.{Journal}
 use Rattle.frames.specs.declared.body.Body.{Body}
 use Rattle.frames.specs.declared.body.Body.TheVariants as body
 use Rattle.beside_rings.specs.Beside.{IsQuiet, IsQuietSent, IsNoLearn, SameBut, AreSame, Untouched}
-use Rattle.beside_rings.proofs.Following.{Follows-all}
+use Rattle.beside_rings.proofs.Following.{mapped, Follows-all}
 use Rattle.beside_rings.proofs.Merge.{merges_untouched}
 use Rattle.protocol.specs.Lines.{Line, Learn}
 use Rattle.protocol.specs.Parts.{Ring, Coordinator, Rounds, Part, Did}
@@ -25,7 +25,6 @@ use Rattle.protocol.specs.Node.{Acting, RingPart, part_in, part_at, with_part_in
 use Rattle.protocol.specs.Merging.{merges}
 use Rattle.protocol.specs.Learning.{with_did, Queued, queued, proposes_then, by_news, learns_one, then_learns, learns_up_to, does}
 use Rattle.step_valid.specs.Valid.{MayLearn, IsLearned, BodyValid, SentValid, RoleValid, RoundValid, PartValid, DidValid, IsMemberOf, MemberValid, LearnValid, LineValid, AreNumbered}
-use Rattle.step_valid.proofs.Listed.{mapped}
 use Rattle.step_valid.proofs.Words.{valid_none, valid_proposes}
 use Rattle.step_valid.proofs.Learned.{learns_valid, news_some}
 

@@ -1,5 +1,5 @@
 -- What is kept of every frame, view and step so that each record has a spelling and each learn line a shape.
-use Rattle.std.specs.Prelude.{◌≡◌, ℕ, suc, ◌<◌, ◌≤◌, true, false, List, [], Option, Some, None}
+use Rattle.std.specs.Prelude.{◌≡◌, ℕ, suc, ◌<◌, ◌≤◌, true, false, Option, Some, None}
 use Rattle.std.specs.List.{AllByRecursion}
 use Rattle.mrp_types.specs.declared.id.NodeId.{NodeId}
 use Rattle.mrp_types.specs.declared.id.RingId.{RingId}
@@ -14,7 +14,6 @@ use Rattle.mrp_config.specs.Config.{Config}
 use Rattle.mrp_config.specs.declared.tables.RingTable.{RingTable}
 use Rattle.quorums.specs.Groups.{Has}
 use Rattle.vote_state.specs.declared.cast.Cast.{Cast}
-use Rattle.vote_state.specs.declared.change.Change.{Change}
 use Rattle.vote_state.specs.State.{IsKept, IsState}
 use Rattle.vote_state.specs.Valid.{IsRing, IsBallot, IsInst, IsVoted, IsChange}
 use Rattle.frames.specs.declared.body.Body.{Body}
@@ -25,7 +24,7 @@ use Rattle.protocol.specs.Lines.{Line, Learn}
 use Rattle.protocol.specs.Parts.{Ring, Pending, Campaign, Role, Idle, Active, Round, Part, Did}
 use Rattle.protocol.specs.Rings.{is_member, ring_of}
 use Rattle.protocol.specs.Proposing.{vote_of}
-use Rattle.protocol.specs.Node.{RingPart, View, Event, Takes, Stepped, Work, Records}
+use Rattle.protocol.specs.Node.{RingPart, View, Event, Takes, Stepped}
 
 -- ---- ranges
 
