@@ -3,6 +3,7 @@ pub mod Deployed
 pub mod Clients
 pub mod Adding
 pub mod Growing
+pub mod Stopping
 pub mod Running
 pub mod Reading
 pub mod Ruling

@@ -52,30 +52,12 @@ use Rattle.ring_runs.specs.Seats.{acceptors, nobody, seat, IsDeployed}
 use Rattle.ring_runs.specs.Histories.{History, at_first, is_done, is_stopped, by_step, by_break, by_crash, found, by_restart, by_opening, goes, history}
 use Rattle.ring_runs.specs.Standing.{IsDoneBy, DownStands, HostStands, WorkStands, IsReadIn, ReadStands, WorldStands, Later, Tied}
 use Rattle.ring_runs.proofs.Clients.{IsQuiet, asks_quiet, ticks_quiet, takes_quiet}
+use Rattle.ring_runs.proofs.Stopping.{stopped_there, stopped_elsewhere, still_recorded, same_node}
 use Rattle.ring_runs.proofs.Growing.{view_more, host_elsewhere, own_view, IsReadIn-more, read_in, later_none, later_one, later_both, later_grows, more_frames, more_lines, more_work, more_read, one_of, has_first, has_last, done_more, told_more, has_second}
 use Rattle.ring_runs.proofs.Static.{same_id, seats_of, seats_differ, said_by, all_said, all_told}
 
 pub since : (config : Config) (table : RingTable) (from mid : machine.World Value) (h : History) → Later (acceptors table) from mid → Tied config table mid h → Tied config table from h
 since config table from mid h l t = record { machine_world = t.machine_world; later = later_both (acceptors table) from mid t.machine_world l t.later; sound = t.sound; stands = t.stands }
-
-stopped_there : (id : NodeId) (work : Work) (f : ℕ → Work) → (if id.0 == id.0 then work else f id.0) ≡ work
-stopped_there id work f = let e : (id.0 == id.0) ≡ true = grind (arith, nat_tests) in rw e refl
-
-stopped_elsewhere : (id other : NodeId) (work : Work) (f : ℕ → Work) → (other.0 ≡ id.0 → ⊥) → (if other.0 == id.0 then work else f other.0) ≡ f other.0
-stopped_elsewhere id other work f ne = let e : (other.0 == id.0) ≡ false = grind (arith, nat_tests) in rw e refl
-
--- what was recorded stands whatever promises a face has told
-still_recorded : (id : RingId) (f : Face Value) (promises : List (Promise Value)) (c : Change) → IsRecorded id f c → IsRecorded id (with_promises promises f) c
-still_recorded id f promises (change.Promise r ballot) s = s
-still_recorded id f promises (change.Vote r vote) s = s
-still_recorded id f promises (change.Trim r inst) s = s
-still_recorded id f promises other s = tt
-
-same_node : (node : machine.Node Value) (durable pending : Face Value) → node.durable ≡ durable → node.pending ≡ pending
-    → (let made : machine.Node Value = record { durable = durable; pending = pending } in made) ≡ node
-same_node node durable pending e p =
-    sym (ap (λ (f : Face Value). let made : machine.Node Value = record { durable = f; pending = node.pending } in made) e
-    ∙ ap (λ (f : Face Value). let made : machine.Node Value = record { durable = durable; pending = f } in made) p)
 
 module _ (config : Config) (table : RingTable) (d : IsDeployed config table) (w : machine.World Value) (sound : Sound (acceptors table) w) (h : History) (t : WorldStands config table w h) where
   -- what comes to a node was said
