@@ -36,7 +36,7 @@ use Rattle.step_lines.proofs.Ending.{kept_for}
 use Rattle.line_runs.specs.Invariant.{node, latest_first, PossibleLines, UpLines, HostLines, WorldLines}
 use Rattle.line_runs.specs.Laws.{HaveOneValue, IsRun, lines_of, host_of, IsPossible, trim_told, NodeSent, KeepsTold, StartsPast}
 use Rattle.ring_runs.specs.Histories.{at_first}
-use Rattle.ring_runs.specs.Lines.{AreFaithful as AreFaithfulLearns}
+use Rattle.ring_runs.specs.Lines.{LearnLinesKeepF1}
 use Rattle.ring_runs.proofs.Whole.{world_of}
 use Rattle.ring_runs.proofs.Faithful.{faithful}
 use Rattle.line_runs.proofs.Agreeing.{turn_is_enough}
@@ -116,7 +116,7 @@ turned lines one m n ring lo hi lo' hi' inst v w h k a b d e = one m n ring lo h
 
 pub one_value : (c : Config) (hs : List Happening) → IsRun c hs → HaveOneValue (lines_of c hs)
 one_value c hs r =
-    let f : AreFaithfulLearns c (lines_of c hs) = subst (λ (w : World). AreFaithfulLearns c w.lines) (world_of c at_first hs) (faithful c r.valid hs r.may) in
+    let f : LearnLinesKeepF1 c (lines_of c hs) = subst (λ (w : World). LearnLinesKeepF1 c w.lines) (world_of c at_first hs) (faithful c r.valid hs r.may) in
     turn_is_enough (lines_of c hs) (λ before after n ring lo hi value e m low high earlier h inst a b d g. (f before after n ring lo hi value e).agrees m low high earlier h inst a b d g)
 
 pub run_lines : (c : Config) (hs : List Happening) → IsRun c hs → WorldLines c (run c hs nothing)

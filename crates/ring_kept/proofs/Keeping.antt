@@ -89,8 +89,8 @@ module _ (f g : Face Value) (kept : RingState) (v : Voted) (k : KeptTies f kept)
   }
 
 -- a range that isn't held isn't empty
-pub not_held_lt : (v : Voted) (kept : RingState) → are_held v kept.votes ≡ false → v.lo < v.hi
-not_held_lt v kept h = elim (cases_lt v.lo v.hi) [
+pub not_held_not_empty : (v : Voted) (kept : RingState) → are_held v kept.votes ≡ false → v.lo < v.hi
+not_held_not_empty v kept h = elim (cases_lt v.lo v.hi) [
   | inl lt ↦ lt
   | inr empty ↦ let held = held_empty v kept.votes empty in absurd (cc)
 ]

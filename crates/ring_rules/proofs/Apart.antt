@@ -51,7 +51,7 @@ record_apart : (id : RingId) (other : Ring) → (id.0 ≡ other.id.0 → ⊥) �
 record_apart id other ne f (Epoch epoch) is = absurd is
 record_apart id other ne f (Promise r ballot) is = λ e. absurd (ne (sym is ∙ e))
 record_apart id other ne f (Vote r v) is = λ e. absurd (ne (sym is ∙ e))
-record_apart id other ne f (Trim r inst) is = tt
+record_apart id other ne f (Trim r inst) is = λ e. absurd (ne (sym is ∙ e))
 
 pub records_apart : (id : RingId) (other : Ring) → (id.0 ≡ other.id.0 → ⊥) → (f : Face Value) (cs : List Change) → AllByRecursion (IsChangeOf id) cs → AllByRecursion (IsRecorded other.id f) cs
 records_apart id other ne f cs all = mapped (IsChangeOf id) (IsRecorded other.id f) (record_apart id other ne f) cs all

@@ -1,6 +1,6 @@
 -- What comes to a coordinator: a trim that is told, a promise, a start; and what is learned.
 use Rattle.std.proofs.Common.{◌≡◌, inl, inr, ℕ, ◌<◌, ◌≤◌, max, Bool, true, false, ◌&&◌, List, [], ◌∷◌, Option, Some, None, refl, sym, ◌∙◌, ap, subst, arith, length}
-use Rattle.std.specs.Prelude.{◌==◌, nat_eq, nat_lt, nat_le, if◌then◌else◌, slice_index, slice_set, filter}
+use Rattle.std.specs.Prelude.{◌==◌, nat_lt, nat_le, if◌then◌else◌, slice_index, slice_set, filter}
 use Rattle.std.specs.List.{AllByRecursion}
 use Rattle.std.proofs.lemmas.Bool.{cases_lt, cases_eq, and_parts}
 use Rattle.std.proofs.lemmas.Bool.Decides.{nat_tests}
@@ -137,7 +137,7 @@ module _ (ring : Ring) (faces : ℕ → Face Value) (a : ℕ) (seat : position_o
             grows = grows;
             ties = record {
               done = done_changed ring faces a start kept f g did (reach_one (acceptors ring) faces a f (Trims trim) may) grows t.done (change.Trim ring.id trim)
-                  (without_finished (with_kept (with_trim trim did.part.kept) did.part)) (record { stand = (tt, tt); voted = λ c h. inl h }) (rw (same_number ring.id.0) refl) refl (kept_trimmed f did.part.kept trim t.done.kept);
+                  (without_finished (with_kept (with_trim trim did.part.kept) did.part)) (record { stand = ((λ r. omega arith), tt); voted = λ c h. inl h }) (rw (same_number ring.id.0) refl) refl (kept_trimmed f did.part.kept trim t.done.kept);
               role = unfinished_ties (acceptors ring) (seen faces a g) g trim did.part.learner.held did.part.coordinator.role
                   (RoleTies-more (acceptors ring) (seen faces a f) (seen faces a g) (seen_more (acceptors ring) faces a f g grows) f g did.part.coordinator.role grows refl refl t.role);
               told = t.told;

@@ -15,7 +15,7 @@ use Rattle.valid_runs.proofs.Running.{runs_valid}
 use Rattle.bare_world.specs.Runs.{MayRun}
 use Rattle.bare_world.specs.Worlds.{Happening, World, nothing}
 use Rattle.ring_runs.specs.Histories.{at_first, history}
-use Rattle.ring_runs.specs.Lines.{AreFaithful}
+use Rattle.ring_runs.specs.Lines.{LearnLinesKeepF1}
 use Rattle.ring_runs.specs.Votes.{IsChosen}
 use Rattle.ring_runs.proofs.Growing.{has_first, one_of}
 use Rattle.ring_runs.proofs.Whole.{learns, one_value, world_of}
@@ -34,11 +34,11 @@ module _ (config : Config) (valid : IsValid config) (xs : List Happening) (may :
       (learns config table valid listed xs may).line node lo hi value
       (subst (λ (r : RingId). Has (history config xs at_first).world.lines (Learn node r lo hi value)) e has) i from to
 
-  pub faithful : AreFaithful config (history config xs at_first).world.lines
+  pub faithful : LearnLinesKeepF1 config (history config xs at_first).world.lines
   faithful before after node ring lo hi value e =
       let now : Has (history config xs at_first).world.lines (Learn node ring lo hi value) =
       subst (λ (l : List Line). Has l (Learn node ring lo hi value)) (sym e) (has_middle before after (Learn node ring lo hi value)) in
-      let shape : LearnValid config node node ring (record { lo = lo; hi = hi; value = value }) =
+      let shape : LearnValid config node ring (record { lo = lo; hi = hi; value = value }) =
       one_of (LineFits config) (history config xs at_first).world.lines (Learn node ring lo hi value) now lines_fit.lines in
       let table : RingTable = shape.of_ring.table in
       let named : ring ≡ shape.of_ring.table.id = shape.named ∙ ap (λ (r : Ring). r.id) shape.of_ring.same in

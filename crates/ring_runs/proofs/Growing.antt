@@ -60,14 +60,18 @@ pub IsReadIn-more : (f g : Face Value) (kept : RingState) → Grows f g → IsRe
 IsReadIn-more f g kept grows r =
     let low : kept.promise ≤ f.promise = r.promise in
     let up : f.promise ≤ g.promise = grows.promise in
-    record { promise = omega arith; cast = λ i c e. grows.casts (proposal c.ballot i c.value) (r.cast i c e) }
+    let low_trim : kept.trim ≤ f.trim = r.trim in
+    let up_trim : f.trim ≤ g.trim = grows.trim in
+    record { promise = omega arith; trim = omega arith; cast = λ i c e. grows.casts (proposal c.ballot i c.value) (r.cast i c e) }
 
 -- what a face holds that the invariant holds of was cast
 pub read_in : (n : ℕ) (faces : ℕ → Face Value) (a : ℕ) (f : Face Value) (kept : RingState) → Local n faces a f → KeptTies f kept → IsReadIn f kept
 read_in n faces a f kept local ties =
     let same : f.promise ≡ kept.promise = ties.promise in
+    let same_trim : f.trim ≡ kept.trim = ties.trim in
     record {
       promise = omega arith;
+      trim = omega arith;
       cast = λ i c e. local.held_cast i (record { ballot = c.ballot; value = c.value }) (ties.votes i ∙ ap (λ (o : Option Cast). told_of o) e);
     }
 
@@ -145,6 +149,7 @@ module _ (config : Config) (table : RingTable) where
     lines = v.lines;
     done = v.done;
     cast = v.cast;
+    beyond = v.beyond;
     told = λ id p has lt. told_more (ring_of config id table) (owner (acceptors table) p.ballot ≡ seat table id) h.world.frames (h.world.frames ++ frames) p
         (λ x there. has_first h.world.frames frames x there) (v.told id p has lt);
     works = v.works;
@@ -159,6 +164,7 @@ module _ (config : Config) (table : RingTable) where
     lines = appended (IsTold (ring_of config nobody table) (durables late)) h.world.lines lines v.lines told;
     done = v.done;
     cast = v.cast;
+    beyond = v.beyond;
     told = v.told;
     works = v.works;
     read = v.read;
@@ -172,6 +178,7 @@ module _ (config : Config) (table : RingTable) where
     lines = v.lines;
     done = v.done;
     cast = v.cast;
+    beyond = v.beyond;
     told = v.told;
     works = appended (λ (e : NodeId × Work). Has h.done e) h.world.works ((id, work) ∷ []) v.works (has, tt);
     read = v.read;
@@ -185,6 +192,7 @@ module _ (config : Config) (table : RingTable) where
     lines = v.lines;
     done = v.done;
     cast = v.cast;
+    beyond = v.beyond;
     told = v.told;
     works = v.works;
     read = appended (ReadStands table late) h.world.read ((id, state) ∷ []) v.read (was, tt);

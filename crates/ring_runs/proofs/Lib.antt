@@ -1,7 +1,9 @@
 pub mod Static
 pub mod Deployed
 pub mod Clients
+pub mod Adding
 pub mod Growing
+pub mod Stopping
 pub mod Running
 pub mod Reading
 pub mod Ruling

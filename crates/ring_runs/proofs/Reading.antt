@@ -25,7 +25,7 @@ use Rattle.ring_kept.specs.Kept.{told_of, KeptTies}
 use Rattle.protocol.specs.Rings.{ring_of}
 use Rattle.ring_tables.specs.Ties.{AcceptSaid, BodySaid, SaidBy, IsSaid, IsRecorded}
 use Rattle.ring_tables.specs.Ties as ties
-use Rattle.ring_steps.specs.Stands.{changes_in}
+use Rattle.beside_rings.specs.Beside.{changes_in}
 use Rattle.bare_world.specs.Worlds.{Host, Up, Down}
 use Rattle.ring_runs.specs.Histories.{History}
 use Rattle.ring_runs.specs.Seats.{acceptors, acceptor_at, nobody, seat, IsDeployed}

@@ -28,14 +28,16 @@ use Rattle.ring_kept.specs.Kept.{told_of}
 use Rattle.protocol.specs.Lines.{Learn}
 use Rattle.protocol.specs.Node.{Work}
 use Rattle.protocol.specs.Rings.{ring_of}
-use Rattle.ring_tables.specs.Ties.{AcceptSaid, IsRangeChosen, IsRecorded, IsTold, PromiseSaid, IsToldIn}
-use Rattle.ring_steps.specs.Stands.{ViewStands, changes_in}
+use Rattle.ring_tables.specs.Ties.{AcceptSaid, IsRangeChosen, IsRecorded, IsTold, PromiseSaid, IsToldIn, IsVotedIn}
+use Rattle.beside_rings.specs.Beside.{changes_in}
+use Rattle.ring_steps.specs.Stands.{ViewStands}
 use Rattle.bare_world.specs.Worlds.{Host}
 use Rattle.ring_runs.specs.Histories.{History}
-use Rattle.ring_runs.specs.Rules.{IsToldUpTo, PromiseRule, IsHeldUpTo, KeepsVote, AreCast, VoteRule, DoneRule, HasPromised, Backs, ProposeRule, ChooseRule, OneValueRule, LearnRule}
+use Rattle.ring_runs.specs.Rules.{IsToldUpTo, PromiseRule, IsHeldUpTo, KeepsVote, AreCast, VoteRule, DoneRule, HasPromised, Backs, ProposeRule, ChooseRule, OneValueRule, LearnRule, AddsNoneBelow, StartRule}
 use Rattle.ring_runs.specs.Seats.{acceptors, acceptor_at, nobody, position_or, seat, IsDeployed}
 use Rattle.ring_runs.specs.Standing.{HostStands, ReadStands, Tied, WorkStands, WorldStands}
-use Rattle.ring_runs.specs.Votes.{HasCast, HasSent, HasVoted, IsChosen, IsProposed, MayKeep}
+use Rattle.ring_runs.specs.Votes.{HasCast, IsInStopped, HasSent, HasVoted, IsChosen, IsProposed, MayKeep}
+use Rattle.ring_runs.proofs.Adding.{Adds, BothAdd, both_run, reached_adds}
 use Rattle.ring_runs.proofs.Growing.{later_grows, one_of}
 use Rattle.ring_runs.proofs.Reading.{Shown, shown, sent_said, cast_there, was_cast, was_cast_at, voted_there, offered, vote_proposed, is_chosen, chosen_there}
 use Rattle.ring_runs.proofs.Static.{seat_at}
@@ -110,12 +112,38 @@ module _ (config : Config) (table : RingTable) (d : IsDeployed config table) (w 
             (subst (λ (x : ℕ). Has (durables w x).promises (back.backing.promise k)) (sym (seat_at config table d k lt)) has) (omega arith))
         go (inr own) = inr own.0
 
+    -- and what it told was cast, or its own step that was stopped has recorded it
+    reported : (k : ℕ) → k < acceptors table → back.backing.members k ≡ true → (vote : Vote Value) → (back.backing.promise k).told i ≡ Some vote
+        → HasCast table h (acceptor_at table k) vote.ballot i vote.value
+        ⊎ ((k ≡ owner (acceptors table) ballot) × IsInStopped table h (acceptor_at table k) vote.ballot i vote.value)
+    reported k lt is vote e = go (back.backing.made k lt is)
+      where
+        beyond : k ≡ owner (acceptors table) ballot
+            → Has (durables w (seat table (acceptor_at table k))).casts (proposal vote.ballot i vote.value)
+            ⊎ IsVotedIn table.id (changes_in (h.stopped (acceptor_at table k).0)) (proposal vote.ballot i vote.value)
+            → HasCast table h (acceptor_at table k) vote.ballot i vote.value
+            ⊎ ((k ≡ owner (acceptors table) ballot) × IsInStopped table h (acceptor_at table k) vote.ballot i vote.value)
+        beyond own (inl has) = inl (was_cast config table d w sound h t (acceptor_at table k) vote.ballot i vote.value has)
+        beyond own (inr v) = inr (own, record { vote = v.vote; recorded = v.there; from = v.from; to = v.to; of_ballot = v.of_ballot; of_value = v.of_value })
+
+        go : deeds.IsPromised (durables w) (owner (acceptors table) ballot) (w (owner (acceptors table) ballot)).pending k (back.backing.promise k)
+            → HasCast table h (acceptor_at table k) vote.ballot i vote.value
+            ⊎ ((k ≡ owner (acceptors table) ballot) × IsInStopped table h (acceptor_at table k) vote.ballot i vote.value)
+        go (inl has) =
+            inl (was_cast_at config table d w sound h t k vote.ballot i vote.value lt ((sound.durable k).told_cast (back.backing.promise k) has i vote e))
+        go (inr own) =
+            let cast : Has (w k).pending.casts (proposal vote.ballot i vote.value) =
+            (sound.pending k).told_cast (back.backing.promise k) (said_there k (back.backing.promise k) (inr own)) i vote e in
+            beyond own.0 (t.beyond (acceptor_at table k) (proposal vote.ballot i vote.value)
+            (subst (λ (x : ℕ). Has (w x).pending.casts (proposal vote.ballot i vote.value)) (sym (seat_at config table d k lt)) cast))
+
     backs : Backs table h ballot i value
     backs = record {
       members = back.backing.members;
       majority = back.backing.majority;
       report = λ k. (back.backing.promise k).told i;
       promised = promised;
+      cast = reported;
       lower = back.lower;
       outdone = told_there;
       due = back.backing.due;
@@ -254,14 +282,29 @@ module _ (config : Config) (table : RingTable) (d : IsDeployed config table) (fr
         let on = (either_face (acceptors table) after.machine_world after.sound (seat table id) s.face s.is).grown.promise in
         let face : s.face.promise ≡ (ring_at state table.id).promise = s.ties.promise in
         omega arith;
+    trimmed = λ id work inst has recorded state keeps.
+        let s : Shown table after.machine_world id state = shown_late id state keeps in
+        let all : WorkStands table t.machine_world (id, work) = one_of (WorkStands table t.machine_world) early.done (id, work) has t.stands.done in
+        let low : inst ≤ (durables t.machine_world (seat table id)).trim =
+        one_of (IsRecorded table.id (durables t.machine_world (seat table id))) (changes_in work) (change.Trim table.id inst) recorded all refl in
+        let up = (more (seat table id)).trim in
+        let on = (either_face (acceptors table) after.machine_world after.sound (seat table id) s.face s.is).grown.trim in
+        let face : s.face.trim ≡ (ring_at state table.id).trim = s.ties.trim in
+        omega arith;
     kept = λ id before has state keeps.
         let s : Shown table after.machine_world id state = shown_late id state keeps in
         let r : ReadStands table t.machine_world (id, before) = one_of (ReadStands table t.machine_world) early.world.read (id, before) has t.stands.read in
         let low = r.promise in
-        let up = (more (seat table id)).promise in
-        let on = (either_face (acceptors table) after.machine_world after.sound (seat table id) s.face s.is).grown.promise in
+        let low_trim = r.trim in
+        let up : Grows (durables t.machine_world (seat table id)) (durables after.machine_world (seat table id)) = more (seat table id) in
+        let up_promise = up.promise in
+        let up_trim = up.trim in
+        let on = (either_face (acceptors table) after.machine_world after.sound (seat table id) s.face s.is).grown in
+        let on_promise = on.promise in
+        let on_trim = on.trim in
         let face : s.face.promise ≡ (ring_at state table.id).promise = s.ties.promise in
-        omega arith;
+        let face_trim : s.face.trim ≡ (ring_at state table.id).trim = s.ties.trim in
+        (omega arith, omega arith);
   }
 
   pub choose_rule : ChooseRule table early late
@@ -279,3 +322,35 @@ module _ (config : Config) (table : RingTable) (d : IsDeployed config table) (fr
       (Chosen-more (acceptors table) (durables t.machine_world) (durables after.machine_world) more (proposal c.ballot i u)
       (chosen_there config table d t.machine_world t.sound early t.stands c.ballot i u c.chosen))
       (chosen_there config table d after.machine_world after.sound late after.stands e.ballot i v e.chosen) refl
+
+-- ---- what is added to an earlier history that a run reaches from nothing
+
+module _ (config : Config) (table : RingTable) (d : IsDeployed config table) (early late : History)
+    (t : Tied config table machine.empty early) (after : Tied config table t.machine_world late) where
+  adds : (k : ℕ) → Adds (durables t.machine_world k) (after.machine_world k).pending
+  adds k =
+      let first : BothAdd (t.machine_world k).durable (t.machine_world k) =
+      subst (λ (x : machine.World Value). BothAdd (x k).durable (x k)) t.later.is (reached_adds (acceptors table) t.later.events t.later.can k) in
+      let second : BothAdd (t.machine_world k).durable (after.machine_world k) =
+      subst (λ (x : machine.World Value). BothAdd (t.machine_world k).durable (x k)) after.later.is
+      (both_run (acceptors table) (t.machine_world k).durable k t.machine_world first after.later.events after.later.can) in
+      second.pending
+
+  none_below : (id : NodeId) (ballot : ℕ) → ballot ≤ (durables t.machine_world (seat table id)).promise → AddsNoneBelow table early late id ballot
+  none_below id ballot low lower i value v less =
+      go ((adds (seat table id)).casts (proposal lower i value) (voted_there config table d after.machine_world after.sound late after.stands id lower i value v))
+    where
+      go : Has (durables t.machine_world (seat table id)).casts (proposal lower i value) ⊎ ((durables t.machine_world (seat table id)).promise ≤ lower) → HasCast table early id lower i value
+      go (inl has) = was_cast config table d t.machine_world t.sound early t.stands id lower i value has
+      go (inr le) = absurd (omega arith)
+
+  pub start_rule : StartRule table early late
+  start_rule = record {
+    recorded = λ id work ballot has recorded.
+        let all : WorkStands table t.machine_world (id, work) = one_of (WorkStands table t.machine_world) early.done (id, work) has t.stands.done in
+        none_below id ballot
+        (one_of (IsRecorded table.id (durables t.machine_world (seat table id))) (changes_in work) (change.Promise table.id ballot) recorded all refl);
+    read = λ id state has.
+        let r : ReadStands table t.machine_world (id, state) = one_of (ReadStands table t.machine_world) early.world.read (id, state) has t.stands.read in
+        none_below id (ring_at state table.id).promise r.promise;
+  }

@@ -39,7 +39,8 @@ use Rattle.protocol.specs.Node.{View, Event, Ticks, Takes, Leads, Stepped, Work,
 use Rattle.protocol.specs.Opening.{opened}
 use Rattle.protocol.specs.Rings.{ring_of}
 use Rattle.protocol.specs.Step.{step}
-use Rattle.ring_steps.specs.Stands.{changes_in, ViewStands, EventSaid, StepStands}
+use Rattle.beside_rings.specs.Beside.{changes_in}
+use Rattle.ring_steps.specs.Stands.{ViewStands, EventSaid, StepStands}
 use Rattle.ring_tables.specs.Ties.{SaidBy, IsSaid, IsTold, IsRecorded, IsVotedIn, AreRecorded, IsToldIn}
 use Rattle.ring_steps.proofs.Ending.{step_stands}
 use Rattle.ring_tables.proofs.More.{appended, mapped, all_said_more, all_told_more, all_recorded_more, none_recorded}
@@ -51,29 +52,12 @@ use Rattle.ring_runs.specs.Seats.{acceptors, nobody, seat, IsDeployed}
 use Rattle.ring_runs.specs.Histories.{History, at_first, is_done, is_stopped, by_step, by_break, by_crash, found, by_restart, by_opening, goes, history}
 use Rattle.ring_runs.specs.Standing.{IsDoneBy, DownStands, HostStands, WorkStands, IsReadIn, ReadStands, WorldStands, Later, Tied}
 use Rattle.ring_runs.proofs.Clients.{IsQuiet, asks_quiet, ticks_quiet, takes_quiet}
+use Rattle.ring_runs.proofs.Stopping.{stopped_there, stopped_elsewhere, still_recorded, same_node}
 use Rattle.ring_runs.proofs.Growing.{view_more, host_elsewhere, own_view, IsReadIn-more, read_in, later_none, later_one, later_both, later_grows, more_frames, more_lines, more_work, more_read, one_of, has_first, has_last, done_more, told_more, has_second}
 use Rattle.ring_runs.proofs.Static.{same_id, seats_of, seats_differ, said_by, all_said, all_told}
 
 pub since : (config : Config) (table : RingTable) (from mid : machine.World Value) (h : History) → Later (acceptors table) from mid → Tied config table mid h → Tied config table from h
 since config table from mid h l t = record { machine_world = t.machine_world; later = later_both (acceptors table) from mid t.machine_world l t.later; sound = t.sound; stands = t.stands }
-
-stopped_there : (id : NodeId) (work : Work) (f : ℕ → Work) → (if id.0 == id.0 then work else f id.0) ≡ work
-stopped_there id work f = let e : (id.0 == id.0) ≡ true = grind (arith, nat_tests) in rw e refl
-
-stopped_elsewhere : (id other : NodeId) (work : Work) (f : ℕ → Work) → (other.0 ≡ id.0 → ⊥) → (if other.0 == id.0 then work else f other.0) ≡ f other.0
-stopped_elsewhere id other work f ne = let e : (other.0 == id.0) ≡ false = grind (arith, nat_tests) in rw e refl
-
--- what was recorded stands whatever promises a face has told
-still_recorded : (id : RingId) (f : Face Value) (promises : List (Promise Value)) (c : Change) → IsRecorded id f c → IsRecorded id (with_promises promises f) c
-still_recorded id f promises (change.Promise r ballot) s = s
-still_recorded id f promises (change.Vote r vote) s = s
-still_recorded id f promises other s = tt
-
-same_node : (node : machine.Node Value) (durable pending : Face Value) → node.durable ≡ durable → node.pending ≡ pending
-    → (let made : machine.Node Value = record { durable = durable; pending = pending } in made) ≡ node
-same_node node durable pending e p =
-    sym (ap (λ (f : Face Value). let made : machine.Node Value = record { durable = f; pending = node.pending } in made) e
-    ∙ ap (λ (f : Face Value). let made : machine.Node Value = record { durable = durable; pending = f } in made) p)
 
 module _ (config : Config) (table : RingTable) (d : IsDeployed config table) (w : machine.World Value) (sound : Sound (acceptors table) w) (h : History) (t : WorldStands config table w h) where
   -- what comes to a node was said
@@ -96,7 +80,9 @@ module _ (config : Config) (table : RingTable) (d : IsDeployed config table) (w 
       (cast : (c : Proposal Value) → Has (durables late (seat table id)).casts c → IsDoneBy table done id c)
       (frames : List Sent) (kept : (x : Sent) → Has h.world.frames x → Has frames x) (said : AllByRecursion (IsSaid (ring_of config nobody table) (durables late)) frames)
       (told : (p : Promise Value) → Has (durables late (seat table id)).promises p → p.low < p.high
-      → (owner (acceptors table) p.ballot ≡ seat table id) ⊎ IsToldIn (ring_of config id table) frames p) where
+      → (owner (acceptors table) p.ballot ≡ seat table id) ⊎ IsToldIn (ring_of config id table) frames p)
+      (beyond : (c : Proposal Value) → Has (late (seat table id)).pending.casts c
+      → Has (durables late (seat table id)).casts c ⊎ IsVotedIn table.id (changes_in (stopped id.0)) c) where
     hosts_after : (other : NodeId) → HostStands config table late other (stopped other.0) (if other.0 == id.0 then host else h.world.hosts other.0)
     hosts_after other = go (other.0 == id.0) refl
       where
@@ -122,6 +108,21 @@ module _ (config : Config) (table : RingTable) (d : IsDeployed config table) (w 
             t.cast other c (subst (λ (x : machine.Node Value). Has x.durable.casts c) (others (seat table other) (seats_differ config table d other id ne)) has) in
             record { work = was.work; there = grown (other, was.work) was.there; voted = was.voted }
 
+    abbrev is_beyond : NodeId → Work → machine.Node Value → Type 0
+    is_beyond other work node = (c : Proposal Value) → Has node.pending.casts c → Has node.durable.casts c ⊎ IsVotedIn table.id (changes_in work) c
+
+    beyond_after : (other : NodeId) → is_beyond other (stopped other.0) (late (seat table other))
+    beyond_after other = go (other.0 == id.0) refl
+      where
+        go : (b : Bool) → (other.0 == id.0) ≡ b → is_beyond other (stopped other.0) (late (seat table other))
+        go true e =
+            let it : other ≡ id = same_id other id (grind (arith, nat_tests)) in
+            subst (λ (x : NodeId). is_beyond x (stopped x.0) (late (seat table x))) (sym it) beyond
+        go false e =
+            let ne : (other.0 ≡ id.0 → ⊥) = grind (arith, nat_tests) in
+            subst (λ (x : machine.Node Value). is_beyond other (stopped other.0) x) (sym (others (seat table other) (seats_differ config table d other id ne)))
+            (subst (λ (work : Work). is_beyond other work (w (seat table other))) (sym (same other ne)) (t.beyond other))
+
     told_after : (other : NodeId) (p : Promise Value) → Has (durables late (seat table other)).promises p → p.low < p.high
         → (owner (acceptors table) p.ballot ≡ seat table other) ⊎ IsToldIn (ring_of config other table) frames p
     told_after other p has lt = go (other.0 == id.0) refl
@@ -143,6 +144,7 @@ module _ (config : Config) (table : RingTable) (d : IsDeployed config table) (w 
       lines = all_told_more (ring_of config nobody table) (durables w) (durables late) more h.world.lines t.lines;
       done = fine;
       cast = casts_after;
+      beyond = beyond_after;
       told = told_after;
       works = mapped (λ (e : NodeId × Work). Has h.done e) (λ (e : NodeId × Work). Has done e) grown h.world.works t.works;
       read = mapped (ReadStands table w) (ReadStands table late)
@@ -197,7 +199,7 @@ module _ (config : Config) (table : RingTable) (d : IsDeployed config table) (w 
         (all_said_more (ring_of config nobody table) (durables w) (durables (happens event.event w)) event.more h.world.frames t.frames)
         (all_said config table d id nobody (durables (happens event.event w)) did.frames
         (all_said_more (ring_of config id table) (seen (durables w) (seat table id) s.face) (durables (happens event.event w)) event.seen_there did.frames s.frames)))
-        told_then)
+        told_then (λ c has. inl (subst (λ (f : Face Value). Has f.casts c) (event.pending ∙ sym event.durable) has)))
 
     pub goes_well : Tied config table w (record { world = goes_on id before did h.world; stopped = h.stopped; done = h.done ++ (id, did.work) ∷ [] })
     goes_well = record {
@@ -229,6 +231,7 @@ module _ (config : Config) (table : RingTable) (d : IsDeployed config table) (w 
         (subst (λ (x : Work). DownStands table (seat table id) (late (seat table id)) x durable.state pending.state) (sym (stopped_there id work h.stopped)) own)
         h.done (λ e has. has) (done_still late more) (λ c has. t.cast id c (none c has)) h.world.frames (λ x there. there)
         (all_said_more (ring_of config nobody table) (durables w) (durables late) more h.world.frames t.frames) (λ p has lt. t.told id p (untold p has) lt)
+        (subst (λ (x : Work). DownStands table (seat table id) (late (seat table id)) x durable.state pending.state) (sym (stopped_there id work h.stopped)) own).made.voted
 
     says_down : (cause : Cause) → WorldStands config table late (is_stopped id work (record h { world = goes_down id cause durable pending h.world }))
     says_down cause =
@@ -327,7 +330,8 @@ module _ (config : Config) (table : RingTable) (d : IsDeployed config table) (w 
             ))
             casts h.world.frames (λ x there. there)
             (all_said_more (ring_of config nobody table) (durables w) (durables (happens (After (seat table id)) w)) (happens_more (acceptors table) w sound (After (seat table id)) tt) h.world.frames t.frames)
-            told;
+            told
+            (subst (λ (x : Work). DownStands table (seat table id) (happens (After (seat table id)) w (seat table id)) x pending.state pending.state) (sym (stopped_there id Nothing h.stopped)) own).made.voted;
       }
     where
       go : (c : Proposal Value) → Has (w (seat table id)).durable.casts c ⊎ IsVotedIn table.id (changes_in (h.stopped id.0)) c → IsDoneBy table (h.done ++ (id, h.stopped id.0) ∷ []) id c
@@ -408,6 +412,7 @@ module _ (config : Config) (table : RingTable) (d : IsDeployed config table) (fr
                 lines = g.stands.lines;
                 done = g.stands.done;
                 cast = g.stands.cast;
+                beyond = g.stands.beyond;
                 told = g.stands.told;
                 works = g.stands.works;
                 read = g.stands.read;
@@ -426,6 +431,7 @@ module _ (config : Config) (table : RingTable) (d : IsDeployed config table) (fr
             lines = v.lines;
             done = v.done;
             cast = v.cast;
+            beyond = v.beyond;
             told = v.told;
             works = v.works;
             read = v.read;
@@ -443,7 +449,7 @@ module _ (config : Config) (table : RingTable) (d : IsDeployed config table) (fr
               made = down.made;
               silent = down.silent;
             })
-            h.done (λ e has. has) t.stands.done (λ c has. t.stands.cast id c has) world.frames (λ x there. there) t.stands.frames (λ p has lt. t.stands.told id p has lt)
+            h.done (λ e has. has) t.stands.done (λ c has. t.stands.cast id c has) world.frames (λ x there. there) t.stands.frames (λ p has lt. t.stands.told id p has lt) down.made.voted
 
   -- ---- clients
 
@@ -455,7 +461,7 @@ module _ (config : Config) (table : RingTable) (d : IsDeployed config table) (fr
     sound = t.sound;
     stands = more_lines config table t.machine_world (record h { world = with_frames did.frames (with_client id did.client h.world) }) did.lines (quiet (durables t.machine_world)).lines
         (more_frames config table t.machine_world (record h { world = with_client id did.client h.world }) did.frames (quiet (durables t.machine_world)).frames
-        (record { hosts = s.hosts; frames = s.frames; lines = s.lines; done = s.done; cast = s.cast; told = s.told; works = s.works; read = s.read }));
+        (record { hosts = s.hosts; frames = s.frames; lines = s.lines; done = s.done; cast = s.cast; beyond = s.beyond; told = s.told; works = s.works; read = s.read }));
   }
     where
       s : WorldStands config table t.machine_world h
@@ -568,6 +574,7 @@ module _ (config : Config) (table : RingTable) (d : IsDeployed config table) whe
       lines = tt;
       done = tt;
       cast = λ id c has. absurd has;
+      beyond = λ id c has. absurd has;
       told = λ id p has lt. absurd has;
       works = tt;
       read = tt;

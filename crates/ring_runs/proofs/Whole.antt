@@ -9,10 +9,10 @@ use Rattle.ring_safety.specs.Worlds as machine
 use Rattle.bare_world.specs.Runs.{MayRun, run}
 use Rattle.bare_world.specs.Worlds.{Happening, nothing}
 use Rattle.ring_runs.specs.Histories.{History, at_first, goes, history}
-use Rattle.ring_runs.specs.Rules.{ChooseRule, DoneRule, LearnRule, OneValueRule, PromiseRule, ProposeRule, VoteRule}
+use Rattle.ring_runs.specs.Rules.{ChooseRule, DoneRule, LearnRule, OneValueRule, PromiseRule, ProposeRule, StartRule, VoteRule}
 use Rattle.ring_runs.specs.Standing.{Tied}
 use Rattle.ring_runs.proofs.Deployed.{deployed}
-use Rattle.ring_runs.proofs.Ruling.{choose_rule, done_rule, learn_rule, one_value_rule, promise_rule, propose_rule, vote_rule}
+use Rattle.ring_runs.proofs.Ruling.{choose_rule, done_rule, learn_rule, one_value_rule, promise_rule, propose_rule, start_rule, vote_rule}
 use Rattle.ring_runs.proofs.Running.{tied_later, tied_reached}
 
 pub world_of : (config : Config) (h : History) (xs : List Happening) → (history config xs h).world ≡ run config xs h.world
@@ -57,6 +57,9 @@ module _ (config : Config) (table : RingTable) (valid : IsValid config) (has : H
 
   pub done : DoneRule table (history config xs at_first) (history config ys (history config xs at_first))
   done = done_rule config table (deployed config table valid has) machine.empty (history config xs at_first) (history config ys (history config xs at_first)) first second
+
+  pub starts : StartRule table (history config xs at_first) (history config ys (history config xs at_first))
+  starts = start_rule config table (deployed config table valid has) (history config xs at_first) (history config ys (history config xs at_first)) first second
 
   pub chooses : ChooseRule table (history config xs at_first) (history config ys (history config xs at_first))
   chooses = choose_rule config table (deployed config table valid has) machine.empty (history config xs at_first) (history config ys (history config xs at_first)) first second

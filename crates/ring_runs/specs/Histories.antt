@@ -10,7 +10,7 @@ use Rattle.protocol.specs.Step.{step}
 use Rattle.bare_world.specs.Worlds.{Host, Up, Down, World, Happening, Steps, Breaks, Crashes, Opens, Fails, happens, nothing}
 
 -- The world; of each node that is down the work of its step that was stopped; and the work that is done: of each step and opening
--- that ended well, and of each step that was stopped and that a restart found on the disk.
+-- that ended well, and of each step that was stopped and that a restart found on the disk, also where its opening then failed.
 pub record History : Type 0 where
   pub world : World
   pub stopped : ℕ → Work

@@ -20,10 +20,10 @@ use Rattle.protocol.specs.Lines.{Learn}
 use Rattle.protocol.specs.Node.{View, RingPart, Work, part_at}
 use Rattle.protocol.specs.Rings.{has_bit}
 use Rattle.bare_world.specs.Worlds.{Up}
-use Rattle.ring_steps.specs.Stands.{changes_in}
+use Rattle.beside_rings.specs.Beside.{changes_in}
 use Rattle.ring_runs.specs.Histories.{History}
 use Rattle.ring_runs.specs.Seats.{acceptors, acceptor_at}
-use Rattle.ring_runs.specs.Votes.{MayKeep, HasSent, IsAcceptor, HasCast, HasVoted, IsProposed, IsChosenIn, IsChosen}
+use Rattle.ring_runs.specs.Votes.{MayKeep, HasSent, IsAcceptor, HasCast, IsInStopped, HasVoted, IsProposed, IsChosenIn, IsChosen}
 
 -- ---- Promise
 
@@ -74,15 +74,30 @@ pub record VoteRule (table : RingTable) (early late : History) : Type 0 where
 
 -- ---- what counts as done
 
--- What a step recorded that ended well is done, and each vote that an opening read was cast; the promises among them are kept.
+-- What a step recorded that ended well is done, and each vote that an opening read was cast; the promises and the trims among them
+-- are kept.
 pub record DoneRule (table : RingTable) (early late : History) : Type 0 where
   pub works : (id : NodeId) (work : Work) → Has early.world.works (id, work) → Has early.done (id, work)
   pub read : (id : NodeId) (state : State) → Has early.world.read (id, state) → (i : ℕ) (vote : Cast) → value_at i (ring_at state table.id).votes ≡ Some vote
       → HasCast table early id vote.ballot i vote.value
   pub promised : (id : NodeId) (work : Work) (ballot : ℕ) → Has early.done (id, work) → Has (changes_in work) (change.Promise table.id ballot)
       → (state : State) → MayKeep (late.world.hosts id.0) state → ballot ≤ (ring_at state table.id).promise
+  pub trimmed : (id : NodeId) (work : Work) (inst : ℕ) → Has early.done (id, work) → Has (changes_in work) (change.Trim table.id inst)
+      → (state : State) → MayKeep (late.world.hosts id.0) state → inst ≤ (ring_at state table.id).trim
   pub kept : (id : NodeId) (before : State) → Has early.world.read (id, before) → (state : State) → MayKeep (late.world.hosts id.0) state
-      → (ring_at before table.id).promise ≤ (ring_at state table.id).promise
+      → ((ring_at before table.id).promise ≤ (ring_at state table.id).promise) × ((ring_at before table.id).trim ≤ (ring_at state table.id).trim)
+
+-- ---- Start
+
+-- From the earlier history on the acceptor casts no vote below the ballot: each that it has cast or holds later it had cast by then.
+abbrev pub AddsNoneBelow : RingTable → History → History → NodeId → ℕ → Type 0
+AddsNoneBelow table early late id ballot = (lower i : ℕ) (value : Value) → HasVoted table late id lower i value → lower < ballot → HasCast table early id lower i value
+
+-- What a promise of a ballot is worth that a done work has recorded, as a start does, or that an opening has read.
+pub record StartRule (table : RingTable) (early late : History) : Type 0 where
+  pub recorded : (id : NodeId) (work : Work) (ballot : ℕ) → Has early.done (id, work) → Has (changes_in work) (change.Promise table.id ballot)
+      → AddsNoneBelow table early late id ballot
+  pub read : (id : NodeId) (state : State) → Has early.world.read (id, state) → AddsNoneBelow table early late id (ring_at state table.id).promise
 
 -- ---- Propose
 
@@ -100,13 +115,17 @@ pub record HasPromised (table : RingTable) (h : History) (id : NodeId) (ballot i
   pub reports : report ≡ told_of (cast_at i votes)
 
 -- A majority of acceptors stands behind a proposal: each has sent a promise of the ballot for the instance, or is the ballot's owner,
--- whose start is one. What they report there is of lower ballots, and outdoes each vote of a lower ballot that they ever cast or
--- hold there. The value is that of the highest report, where there is one.
+-- whose start is one. What they report there is a vote of a lower ballot that they have cast, and outdoes each vote of a lower
+-- ballot that they ever cast or hold there. A start that was stopped may report a vote that its own step recorded. The value is
+-- that of the highest report, where there is one.
 pub record Backs (table : RingTable) (h : History) (ballot i : ℕ) (value : Value) : Type 0 where
   pub members : ℕ → Bool
   pub majority : IsMajority (acceptors table) members
   pub report : ℕ → Option (Vote Value)
   pub promised : (k : ℕ) → k < acceptors table → members k ≡ true → HasPromised table h (acceptor_at table k) ballot i (report k) ⊎ (k ≡ owner (acceptors table) ballot)
+  pub cast : (k : ℕ) → k < acceptors table → members k ≡ true → (vote : Vote Value) → report k ≡ Some vote
+      → HasCast table h (acceptor_at table k) vote.ballot i vote.value
+      ⊎ ((k ≡ owner (acceptors table) ballot) × IsInStopped table h (acceptor_at table k) vote.ballot i vote.value)
   pub lower : (k : ℕ) → k < acceptors table → members k ≡ true → rank (report k) ≤ ballot
   pub outdone : (k : ℕ) → k < acceptors table → members k ≡ true → (below : ℕ) (other : Value) → HasVoted table h (acceptor_at table k) below i other → below < ballot
       → below < rank (report k)

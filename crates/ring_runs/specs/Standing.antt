@@ -19,7 +19,8 @@ use Rattle.ring_kept.specs.Kept.{KeptTies}
 use Rattle.protocol.specs.Rings.{ring_of}
 use Rattle.protocol.specs.Node.{Work}
 use Rattle.ring_tables.specs.Ties.{IsSaid, IsTold, IsRecorded, IsVotedIn, IsToldIn, AreRecorded}
-use Rattle.ring_steps.specs.Stands.{ViewStands, changes_in}
+use Rattle.beside_rings.specs.Beside.{changes_in}
+use Rattle.ring_steps.specs.Stands.{ViewStands}
 use Rattle.bare_world.specs.Worlds.{Host, Up, Down}
 use Rattle.ring_runs.specs.Histories.{History}
 use Rattle.ring_runs.specs.Seats.{acceptors, nobody, seat}
@@ -48,9 +49,10 @@ HostStands config table w id stopped (Down durable pending) = DownStands table (
 abbrev pub WorkStands : RingTable → machine.World Value → NodeId × Work → Type 0
 WorkStands table w done = AllByRecursion (IsRecorded table.id (w (seat table done.0)).durable) (changes_in done.1)
 
--- what an opening has read: its promise is kept, and its votes were cast
+-- what an opening has read: its promise and its trim are kept, and its votes were cast
 pub record IsReadIn (f : Face Value) (kept : RingState) : Type 0 where
   pub promise : kept.promise ≤ f.promise
+  pub trim : kept.trim ≤ f.trim
   pub cast : (i : ℕ) (cast : Cast) → value_at i kept.votes ≡ Some cast → Has f.casts (proposal cast.ballot i cast.value)
 
 abbrev pub ReadStands : RingTable → machine.World Value → NodeId × State → Type 0
@@ -71,6 +73,9 @@ pub record WorldStands (config : Config) (table : RingTable) (w : machine.World 
   -- what is done stands in durable faces, and each vote of a durable face is done
   pub done : AllByRecursion (WorkStands table w) h.done
   pub cast : (id : NodeId) (c : Proposal Value) → Has (durables w (seat table id)).casts c → IsDoneBy table h.done id c
+  -- what a pending face has cast beyond the durable one, its node's stopped step has recorded
+  pub beyond : (id : NodeId) (c : Proposal Value) → Has (w (seat table id)).pending.casts c
+      → Has (durables w (seat table id)).casts c ⊎ IsVotedIn table.id (changes_in (h.stopped id.0)) c
   -- each promise of a durable face with a page was sent, or is a start of its node's own
   pub told : (id : NodeId) (p : Promise Value) → Has (durables w (seat table id)).promises p → p.low < p.high
       → (owner (acceptors table) p.ballot ≡ seat table id) ⊎ IsToldIn (ring_of config id table) h.world.frames p

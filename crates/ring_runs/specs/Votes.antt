@@ -15,7 +15,7 @@ use Rattle.vote_state.specs.declared.change.Change.TheVariants as change
 use Rattle.vote_state.specs.State.{State, ring_at}
 use Rattle.ring_safety.specs.Faces.{owner}
 use Rattle.protocol.specs.Node.{Work}
-use Rattle.ring_steps.specs.Stands.{changes_in}
+use Rattle.beside_rings.specs.Beside.{changes_in}
 use Rattle.bare_world.specs.Worlds.{Host, Up, Down}
 use Rattle.ring_runs.specs.Histories.{History}
 use Rattle.ring_runs.specs.Seats.{acceptors, acceptor_at}
@@ -41,12 +41,22 @@ pub record IsAcceptor (table : RingTable) (id : NodeId) : Type 0 where
 
 -- ---- votes
 
--- The node has cast a vote: a step recorded it that ended well, or that was stopped and that a restart found on the disk.
+-- The node has cast a vote: a step recorded it that ended well, or that was stopped and that a restart found on the disk, also where
+-- the opening of that restart failed, or where that step itself overwrote the vote or let it go.
 pub record HasCast (table : RingTable) (h : History) (id : NodeId) (ballot i : ℕ) (value : Value) : Type 0 where
   pub work : Work
   pub there : Has h.done (id, work)
   pub vote : Voted
   pub recorded : Has (changes_in work) (change.Vote table.id vote)
+  pub from : vote.lo ≤ i
+  pub to : i < vote.hi
+  pub of_ballot : ballot ≡ vote.ballot
+  pub of_value : value ≡ vote.value
+
+-- The step of the node that was stopped recorded the vote; its next restart may find that record on the disk, or not.
+pub record IsInStopped (table : RingTable) (h : History) (id : NodeId) (ballot i : ℕ) (value : Value) : Type 0 where
+  pub vote : Voted
+  pub recorded : Has (changes_in (h.stopped id.0)) (change.Vote table.id vote)
   pub from : vote.lo ≤ i
   pub to : i < vote.hi
   pub of_ballot : ballot ≡ vote.ballot
@@ -64,7 +74,7 @@ HasVoted table h id ballot i value = HasCast table h id ballot i value ⊎ MayHo
 -- ---- proposals
 
 -- an Accept frame has asked for votes
-pub record IsAsked (table : RingTable) (h : History) (ballot i : ℕ) (value : Value) : Type 0 where
+pub record IsInAccept (table : RingTable) (h : History) (ballot i : ℕ) (value : Value) : Type 0 where
   pub from : NodeId
   pub lo : ℕ
   pub hi : ℕ
@@ -81,7 +91,7 @@ pub record IsOwners (table : RingTable) (h : History) (ballot i : ℕ) (value : 
 
 -- The value is proposed at the instance in the ballot.
 abbrev pub IsProposed : RingTable → History → (ballot i : ℕ) → Value → Type 0
-IsProposed table h ballot i value = IsAsked table h ballot i value ⊎ IsOwners table h ballot i value
+IsProposed table h ballot i value = IsInAccept table h ballot i value ⊎ IsOwners table h ballot i value
 
 -- ---- what is chosen
 

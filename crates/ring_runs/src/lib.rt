@@ -17,8 +17,8 @@ ghost use Rattle.ring_safety.specs.Worlds as machine;
 ghost use Rattle.bare_world.specs.Runs.{MayRun, run};
 ghost use Rattle.bare_world.specs.Worlds.{Happening, nothing};
 ghost use Rattle.ring_runs.specs.Histories.{History, at_first, history};
-ghost use Rattle.ring_runs.specs.Lines.{AreFaithful};
-ghost use Rattle.ring_runs.specs.Rules.{ChooseRule, DoneRule, LearnRule, OneValueRule, PromiseRule, ProposeRule, VoteRule};
+ghost use Rattle.ring_runs.specs.Lines.{LearnLinesKeepF1};
+ghost use Rattle.ring_runs.specs.Rules.{ChooseRule, DoneRule, LearnRule, OneValueRule, PromiseRule, ProposeRule, StartRule, VoteRule};
 ghost use Rattle.ring_runs.specs.Standing.{Tied};
 
 /// The world of a history is the one that the run reaches.
@@ -48,16 +48,24 @@ pub fn vote()
         → MayRun config (history config xs at_first).world ys → VoteRule table (history config xs at_first) (history config ys (history config xs at_first)) }
 {}
 
-/// What counts as done: the work of each step that ended well is, and each vote that an opening read was cast. A promise that was
-/// recorded so, or read, is kept in every possible state, for ever.
+/// What counts as done: the work of each step that ended well is, and each vote that an opening read was cast. A promise and a trim
+/// that were recorded so, or read, are kept in every possible state, for ever.
 pub fn what_is_done_is_kept()
     ensures { (config : Config) (table : RingTable) → IsValid config → Has config.rings table → (xs ys : List Happening) → MayRun config nothing xs
         → MayRun config (history config xs at_first).world ys → DoneRule table (history config xs at_first) (history config ys (history config xs at_first)) }
 {}
 
+/// Start: a promise that a done work has recorded, as the start of a ballot does, or that an opening has read, forbids what a sent
+/// one does: from then on its acceptor casts no vote of a lower ballot.
+pub fn start()
+    ensures { (config : Config) (table : RingTable) → IsValid config → Has config.rings table → (xs ys : List Happening) → MayRun config nothing xs
+        → MayRun config (history config xs at_first).world ys → StartRule table (history config xs at_first) (history config ys (history config xs at_first)) }
+{}
+
 /// Propose: in one ballot and instance all proposals have one value; and a majority of acceptors has sent promises of the ballot, of
 /// its owner this is its start, whose pages hold the instance and whose trims aren't above it, and the value is that of the
-/// highest vote of a lower ballot that they report there, where they report one.
+/// highest vote of a lower ballot that they report there, where they report one. A vote that a member reports was cast by it, or,
+/// of the owner alone, recorded by its step that was stopped.
 pub fn propose()
     ensures { (config : Config) (table : RingTable) → IsValid config → Has config.rings table → (xs : List Happening) → MayRun config nothing xs → ProposeRule table (history config xs at_first) }
 {}
@@ -84,5 +92,5 @@ pub fn learn()
 /// end of all instances at most and has a batch only alone, and has the value of each earlier learn line of the ring that covers
 /// an instance of it.
 pub fn learn_lines_are_faithful()
-    ensures { (config : Config) → IsValid config → (xs : List Happening) → MayRun config nothing xs → AreFaithful config (run config xs nothing).lines }
+    ensures { (config : Config) → IsValid config → (xs : List Happening) → MayRun config nothing xs → LearnLinesKeepF1 config (run config xs nothing).lines }
 {}

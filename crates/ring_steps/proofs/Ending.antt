@@ -32,7 +32,8 @@ use Rattle.ring_safety.specs.Faces.{Face}
 use Rattle.ring_safety.specs.Invariant.{Local}
 use Rattle.ring_kept.specs.Kept.{KeptTies, kept_after}
 use Rattle.ring_tables.specs.Ties.{acceptors, IsSaid, IsTold, LearnerTies, AreRecorded}
-use Rattle.ring_steps.specs.Stands.{changes_in, ViewStands, EventSaid, StepStands}
+use Rattle.beside_rings.specs.Beside.{changes_in}
+use Rattle.ring_steps.specs.Stands.{ViewStands, EventSaid, StepStands}
 use Rattle.ring_tables.specs.Settled.{PartFine}
 use Rattle.ring_tables.proofs.More.{appended, none_recorded, told_more}
 use Rattle.ring_steps.proofs.Along.{MemberTies, OnWay, WayAfter}

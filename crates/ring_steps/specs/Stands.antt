@@ -1,18 +1,17 @@
 -- How the view of a node stands for a face of a ring's machine, at any node.
-use Rattle.std.specs.Prelude.{List, ◌≡◌, ℕ, ◌<◌, length, Some, []}
+use Rattle.std.specs.Prelude.{List, ◌≡◌, ℕ, ◌<◌, length, Some}
 use Rattle.std.specs.List.{AllByRecursion}
 use Rattle.mrp_types.specs.declared.value.Value.{Value}
 use Rattle.mrp_config.specs.declared.tables.RingTable.{RingTable}
 use Rattle.vote_state.specs.State.{ring_at}
 use Rattle.ring_reach.specs.Reach.{Reaches, seen}
 use Rattle.protocol.specs.Parts.{Ring}
-use Rattle.protocol.specs.Node.{View, RingPart, Event, Takes, Stepped, Work, Records, part_at}
-use Rattle.vote_state.specs.declared.change.Change.{Change}
+use Rattle.protocol.specs.Node.{View, RingPart, Event, Takes, Stepped, part_at}
 use Rattle.ring_safety.specs.Faces.{Face}
 use Rattle.ring_kept.specs.Kept.{KeptTies}
 use Rattle.ring_tables.specs.Ties.{acceptors, PartTies, SaidBy, IsSaid, IsTold, AreRecorded, AreTold}
 use Rattle.ring_tables.specs.Settled.{PartFine}
-pub use Rattle.beside_rings.specs.Beside.{changes_in}
+use Rattle.beside_rings.specs.Beside.{changes_in}
 
 pub record PartStands (ring : Ring) (now : ℕ → Face Value) (f : Face Value) (view : View) (p : RingPart) : Type 0 where
   pub of_ring : p.ring ≡ ring

@@ -33,7 +33,7 @@ use Rattle.ring_safety.specs.Rules.{Grows}
 use Rattle.ring_safety.proofs.Local.{Grows-refl}
 use Rattle.ring_safety.proofs.Deeds.{Grows-done}
 use Rattle.ring_kept.specs.Kept.{KeptTies, kept_by, told_of}
-use Rattle.ring_kept.proofs.Keeping.{kept_promised, kept_voted, kept_held, not_held_lt, kept_after_more}
+use Rattle.ring_kept.proofs.Keeping.{kept_promised, kept_voted, kept_held, not_held_not_empty, kept_after_more}
 use Rattle.ring_tables.specs.Ties.{acceptors, IsRangeChosen, RoleTies, LearnerTies, PartTies, BodySaid, IsSaid, IsVotedIn, AreRecorded, AreTold}
 use Rattle.ring_tables.proofs.More.{mapped, appended, IsRangeChosen-more, LearnerTies-more, all_said_more, none_recorded, recorded_on, recorded_both, told_more, told_on}
 
@@ -205,7 +205,7 @@ module _ (ring : Ring) (faces : ℕ → Face Value) (a : ℕ) (start : Face Valu
       go false e =
           done_changed f g did reach voted.grows t (change.Vote ring.id vote) (with_kept (with_vote vote did.part.kept) did.part)
           (record { stand = ((λ r i x y. voted.cast i (omega arith) (omega arith)), tt); voted = λ c h. once c (voted.new c h) }) (rw (same_number ring.id.0) refl) refl
-          (kept_voted f g did.part.kept vote t.kept voted (not_held_lt vote did.part.kept e) top)
+          (kept_voted f g did.part.kept vote t.kept voted (not_held_not_empty vote did.part.kept e) top)
 
   -- votes make no promise
   pub told_votes : (f g : Face Value) (did : Did) (vote : Voted) → g.promises ≡ f.promises → AreTold ring a start f did.frames → AreTold ring a start g (votes_for ring vote did).frames

@@ -128,6 +128,7 @@ module _ (ring : Ring) (old new : ℕ → Face Value) (more : (k : ℕ) → Grow
 pub IsRecorded-more : (ring : Ring) (f g : Face Value) → Grows f g → (c : Change) → IsRecorded ring.id f c → IsRecorded ring.id g c
 IsRecorded-more ring f g grows (change.Promise r ballot) s = λ e. let low = s e in let up = grows.promise in omega arith
 IsRecorded-more ring f g grows (change.Vote r vote) s = λ e i x y. grows.casts (proposal vote.ballot i vote.value) (s e i x y)
+IsRecorded-more ring f g grows (change.Trim r inst) s = λ e. let low = s e in let up = grows.trim in omega arith
 IsRecorded-more ring f g grows other s = tt
 
 pub all_recorded_more : (ring : Ring) (f g : Face Value) → Grows f g → (cs : List Change) → AllByRecursion (IsRecorded ring.id f) cs → AllByRecursion (IsRecorded ring.id g) cs

@@ -155,11 +155,12 @@ abbrev pub IsTold : Ring → (ℕ → Face Value) → Line → Type 0
 IsTold ring now (Learn node r lo hi value) = r.0 ≡ ring.id.0 → IsRangeChosen (acceptors ring) now (record { lo = lo; hi = hi; value = value })
 IsTold ring now other = Unit {0}
 
--- ---- what was recorded: a promise is kept, and a vote was cast at each instance of its range
+-- ---- what was recorded: a promise and a trim are kept, and a vote was cast at each instance of its range
 
 abbrev pub IsRecorded : RingId → Face Value → Change → Type 0
 IsRecorded id f (change.Promise r ballot) = r.0 ≡ id.0 → ballot ≤ f.promise
 IsRecorded id f (change.Vote r vote) = r.0 ≡ id.0 → (i : ℕ) → vote.lo ≤ i → i < vote.hi → Has f.casts (proposal vote.ballot i vote.value)
+IsRecorded id f (change.Trim r inst) = r.0 ≡ id.0 → inst ≤ f.trim
 IsRecorded id f other = Unit {0}
 
 -- a vote that changes record

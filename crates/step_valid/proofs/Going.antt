@@ -14,7 +14,7 @@ use Rattle.vote_journal.specs.Journal.{Journal}
 use Rattle.frames.specs.declared.body.Body.{Body}
 use Rattle.frames.specs.declared.body.Body.TheVariants as body
 use Rattle.beside_rings.specs.Beside.{IsQuiet, IsQuietSent, IsNoLearn, SameBut, AreSame, Untouched}
-use Rattle.beside_rings.proofs.Following.{Follows-all}
+use Rattle.beside_rings.proofs.Following.{mapped, Follows-all}
 use Rattle.beside_rings.proofs.Merge.{merges_untouched}
 use Rattle.protocol.specs.Lines.{Line, Learn}
 use Rattle.protocol.specs.Parts.{Ring, Coordinator, Rounds, Part, Did}
@@ -25,7 +25,6 @@ use Rattle.protocol.specs.Node.{Acting, RingPart, part_in, part_at, with_part_in
 use Rattle.protocol.specs.Merging.{merges}
 use Rattle.protocol.specs.Learning.{with_did, Queued, queued, proposes_then, by_news, learns_one, then_learns, learns_up_to, does}
 use Rattle.step_valid.specs.Valid.{MayLearn, IsLearned, BodyValid, SentValid, RoleValid, RoundValid, PartValid, DidValid, IsMemberOf, MemberValid, LearnValid, LineValid, AreNumbered}
-use Rattle.step_valid.proofs.Listed.{mapped}
 use Rattle.step_valid.proofs.Words.{valid_none, valid_proposes}
 use Rattle.step_valid.proofs.Learned.{learns_valid, news_some}
 
@@ -168,8 +167,8 @@ module _ (config : Config) (id : NodeId) (numbered : AreNumbered config) where
             let lt = news_some ring p.part range news in
             let taken : Acting = with_part ring (learns ring p.part range).part a in
             let told : Acting = prints (Learn a.view.id ring.id range.lo range.hi range.value ∷ []) taken in
-            let line : LearnValid config id a.view.id ring.id (record { lo = range.lo; hi = range.hi; value = range.value }) =
-            (let d = may lt in record { own = v.own; ring = ring; of_ring = m; named = refl; some = lt; decided = record { end = d.end; alone = d.alone; value = d.value } }) in
+            let line : LearnValid config id ring.id (record { lo = range.lo; hi = range.hi; value = range.value }) =
+            (let d = may lt in record { ring = ring; of_ring = m; named = refl; some = lt; decided = record { end = d.end; alone = d.alone; value = d.value } }) in
             let printed : ActingValid config id told = record {
               own = now.own;
               state = now.state;
@@ -177,7 +176,7 @@ module _ (config : Config) (id : NodeId) (numbered : AreNumbered config) where
               changes = now.changes;
               frames = now.frames;
               replies = now.replies;
-              lines = append_all (LineValid config id) a.lines (Learn a.view.id ring.id range.lo range.hi range.value ∷ []) now.lines (line, tt);
+              lines = append_all (LineValid config id) a.lines (Learn a.view.id ring.id range.lo range.hi range.value ∷ []) now.lines ((v.own, line), tt);
             } in
             proposes_valid later (part_at (merges config told).view ring.id) (merges config told) refl all (untouched_valid config id told (merges config told) (merges_untouched config told) printed)
 

@@ -22,10 +22,6 @@ use Rattle.protocol.specs.Acceptor.{page_room, ranges_page}
 use Rattle.protocol.specs.Ballots.{higher, with_reports}
 use Rattle.step_valid.specs.Valid.{MayVote, MayLearn, IsLearned}
 
-pub mapped : {T : Type 0} (P Q : T → Type 0) → ((x : T) → P x → Q x) → (xs : List T) → AllByRecursion P xs → AllByRecursion Q xs
-mapped P Q h [] all = tt
-mapped P Q h (x ∷ xs) all = (h x all.0, mapped P Q h xs all.1)
-
 pub all_mapped : {T U : Type 0} (g : T → U) (P : T → Type 0) (Q : U → Type 0) → ((x : T) → P x → Q (g x)) → (xs : List T) → AllByRecursion P xs → AllByRecursion Q (map g xs)
 all_mapped g P Q h [] all = tt
 all_mapped g P Q h (x ∷ xs) all = (h x all.0, all_mapped g P Q h xs all.1)

@@ -9,7 +9,8 @@ use Rattle.mrp_types.specs.declared.value.Value.{Value}
 use Rattle.mrp_types.specs.declared.voted.Voted.{Voted}
 use Rattle.mrp_types.specs.declared.voted.Decided.{Decided}
 use Rattle.step_valid.specs.Valid.{MayVote, MayLearn, BodyValid, SentValid, CampaignValid, RoleValid, PartValid, DidValid}
-use Rattle.step_valid.proofs.Listed.{mapped, front_all, back_all, set_all, reports_spelled, page_may}
+use Rattle.beside_rings.proofs.Following.{mapped}
+use Rattle.step_valid.proofs.Listed.{front_all, back_all, set_all, reports_spelled, page_may}
 use Rattle.beside_rings.specs.Beside.{IsNoLearn}
 use Rattle.command_codec.specs.Parts.{IsSpelled}
 use Rattle.range_map.specs.Entries.{entries_from}

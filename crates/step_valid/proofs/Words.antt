@@ -34,8 +34,8 @@ use Rattle.protocol.specs.Proposing.{Choice, Rests, Offers, choice, advanced, ow
 -- ---- words
 
 -- a range that isn't held isn't empty
-not_held_lt : (v : Voted) (kept : RingState) → are_held v kept.votes ≡ false → v.lo < v.hi
-not_held_lt v kept h = elim (cases_lt v.lo v.hi) [
+not_held_not_empty : (v : Voted) (kept : RingState) → are_held v kept.votes ≡ false → v.lo < v.hi
+not_held_not_empty v kept h = elim (cases_lt v.lo v.hi) [
   | inl lt ↦ lt
   | inr empty ↦ let held = held_empty v kept.votes empty in absurd (cc)
 ]
@@ -92,7 +92,7 @@ module _ (ring : Ring) (numbered : IsRing ring.id) where
       go : (b : Bool) → are_held vote did.part.kept.votes ≡ b → DidValid (if b then did else with_change (change.Vote ring.id vote) (with_kept (with_vote vote did.part.kept) did.part) did)
       go true e = d
       go false e =
-          let v : IsVoted vote = may (not_held_lt vote did.part.kept e) in
+          let v : IsVoted vote = may (not_held_not_empty vote did.part.kept e) in
           record {
             part = record { kept = vote_kept vote did.part.kept v d.part.kept; role = d.part.role; round = d.part.round; held = d.part.held };
             changes = append_all IsChange did.changes (change.Vote ring.id vote ∷ []) d.changes ((numbered, v), tt);

@@ -1,5 +1,5 @@
 -- What is kept of every frame, view and step so that each record has a spelling and each learn line a shape.
-use Rattle.std.specs.Prelude.{◌≡◌, ℕ, suc, ◌<◌, ◌≤◌, true, false, List, [], Option, Some, None}
+use Rattle.std.specs.Prelude.{◌≡◌, ℕ, suc, ◌<◌, ◌≤◌, true, false, Option, Some, None}
 use Rattle.std.specs.List.{AllByRecursion}
 use Rattle.mrp_types.specs.declared.id.NodeId.{NodeId}
 use Rattle.mrp_types.specs.declared.id.RingId.{RingId}
@@ -14,7 +14,6 @@ use Rattle.mrp_config.specs.Config.{Config}
 use Rattle.mrp_config.specs.declared.tables.RingTable.{RingTable}
 use Rattle.quorums.specs.Groups.{Has}
 use Rattle.vote_state.specs.declared.cast.Cast.{Cast}
-use Rattle.vote_state.specs.declared.change.Change.{Change}
 use Rattle.vote_state.specs.State.{IsKept, IsState}
 use Rattle.vote_state.specs.Valid.{IsRing, IsBallot, IsInst, IsVoted, IsChange}
 use Rattle.frames.specs.declared.body.Body.{Body}
@@ -25,7 +24,7 @@ use Rattle.protocol.specs.Lines.{Line, Learn}
 use Rattle.protocol.specs.Parts.{Ring, Pending, Campaign, Role, Idle, Active, Round, Part, Did}
 use Rattle.protocol.specs.Rings.{is_member, ring_of}
 use Rattle.protocol.specs.Proposing.{vote_of}
-use Rattle.protocol.specs.Node.{RingPart, View, Event, Takes, Stepped, Work, Records}
+use Rattle.protocol.specs.Node.{RingPart, View, Event, Takes, Stepped}
 
 -- ---- ranges
 
@@ -112,17 +111,17 @@ pub record ViewValid (config : Config) (view : View) : Type 0 where
   pub state : IsState view.journal.state
   pub parts : AllByRecursion (MemberValid config view.id) view.parts
 
--- a learn line names the node and a ring of which it is a member; its range isn't empty
-pub record LearnValid (config : Config) (id node : NodeId) (r : RingId) (range : Decided) : Type 0 where
-  pub own : node ≡ id
+-- a node learns of a ring of which it is a member; the range isn't empty
+pub record LearnValid (config : Config) (node : NodeId) (r : RingId) (range : Decided) : Type 0 where
   pub ring : Ring
-  pub of_ring : IsMemberOf config id ring
+  pub of_ring : IsMemberOf config node ring
   pub named : r ≡ ring.id
   pub some : range.lo < range.hi
   pub decided : IsDecided range
 
+-- a learn line names its own node
 abbrev pub LineValid : Config → NodeId → Line → Type 0
-LineValid config id (Learn node r lo hi value) = LearnValid config id node r (record { lo = lo; hi = hi; value = value })
+LineValid config id (Learn node r lo hi value) = (node ≡ id) × LearnValid config id r (record { lo = lo; hi = hi; value = value })
 LineValid config id other = Unit {0}
 
 -- ---- steps

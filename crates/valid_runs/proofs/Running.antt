@@ -54,12 +54,11 @@ frame_valid frames all to frame was = subst (λ (f : Frame). BodyValid f.body) w
 -- a line of a node names that node
 line_fits : (config : Config) (id : NodeId) (l : Line) → LineValid config id l → LineFits config l
 line_fits config id (Learn node r lo hi value) v = record {
-  own = refl;
-  ring = v.ring;
-  of_ring = subst (λ (n : NodeId). IsMemberOf config n v.ring) (sym v.own) v.of_ring;
-  named = v.named;
-  some = v.some;
-  decided = v.decided;
+  ring = v.1.ring;
+  of_ring = subst (λ (n : NodeId). IsMemberOf config n v.1.ring) (sym v.0) v.1.of_ring;
+  named = v.1.named;
+  some = v.1.some;
+  decided = v.1.decided;
 }
 line_fits config id other v = tt
 

@@ -32,7 +32,7 @@ pub record ClientValid (c : ClientView) : Type 0 where
 -- A learn line names a node and a ring of which that is a member; its range isn't empty, ends at the end of all instances at
 -- most, and has a value with a spelling, a batch alone.
 abbrev pub LineFits : Config → Line → Type 0
-LineFits config (Learn node r lo hi value) = LearnValid config node node r (record { lo = lo; hi = hi; value = value })
+LineFits config (Learn node r lo hi value) = LearnValid config node r (record { lo = lo; hi = hi; value = value })
 LineFits config other = Unit {0}
 
 -- what a step recorded that ended well may stand in a record
