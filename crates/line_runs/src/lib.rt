@@ -21,11 +21,10 @@ ghost use Rattle.plain_model.specs.Tuples.{round_sizes, is_tuple_of, instances};
 ghost use Rattle.protocol.specs.Lines.{Line, Begin, Chose, Deliver, Refuse, Restore, Saved, Trim};
 ghost use Rattle.protocol.specs.Node.{Ready, Service, Standing, View};
 ghost use Rattle.protocol.specs.Opening.{partition_of};
-ghost use Rattle.protocol.specs.Rings.{subscribers_of};
 ghost use Rattle.vote_state.specs.State.{trim_at};
 ghost use Rattle.bare_world.specs.Worlds.{Happening, Possible, Up, nothing};
 ghost use Rattle.bare_world.specs.Runs.{run};
-ghost use Rattle.faithful.specs.Rules.{AllHaveTold, AllKnown, Begins, Chooses, Delivers, Refuses, Restores, Saves};
+ghost use Rattle.faithful.specs.Rules.{AllKnown, Begins, Chooses, Delivers, Refuses, Restores, Saves, Trims};
 ghost use Rattle.faithful.specs.Scanners.{Reaches, entry_of, some_reaches, told};
 ghost use Rattle.recovery_lines.specs.Ties.{IsAnswer, IsCovered, IsFit, IsSafe, newest_of};
 ghost use Rattle.line_runs.specs.Invariant.{latest_first, node};
@@ -58,11 +57,11 @@ pub fn recoveries_start_past_trims()
         → lines_of c hs ≡ before ++ Restore x printed ∷ after → StartsPast c (latest_first before) x printed }
 {}
 
-/// Rule F7. Where a trim line is printed some partition subscribes to the ring, and in each that does a trim quorum of
-/// replicas have told an entry of the ring that reaches the trim.
+/// Rule F7. A trim line names a node and a ring of the deployment. Where it is printed some partition subscribes to the ring, and
+/// in each that does a trim quorum of replicas have told an entry of the ring that reaches the trim.
 pub fn trim_lines()
     ensures { (c : Config) (hs : List Happening) → IsRun c hs → (before after : List Line) (x : NodeId) (ring : RingId) (inst : ℕ)
-        → lines_of c hs ≡ before ++ Trim x ring inst ∷ after → AllHaveTold (latest_first before) ring inst (subscribers_of c.partitions ring) }
+        → lines_of c hs ≡ before ++ Trim x ring inst ∷ after → Trims c (latest_first before) x ring inst }
 {}
 
 /// Rule F8. An attempt begins in the epoch of the node's last up line, with a number that none of its attempts had, and with a

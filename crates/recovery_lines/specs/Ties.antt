@@ -25,7 +25,7 @@ use Rattle.protocol.specs.Recovery.{tuple_of_newest}
 use Rattle.protocol.specs.Node.{RingPart, Stage, Recovering, Ready, Choice, Service, Acting, View, Stepped}
 use Rattle.faithful.specs.Scanners.{Begun, Restored, past, touches, tuples_told, life, up_epoch, attempting, unchosen, chosen, before_begin, before_attempt, told, begun, Reaches, some_reaches, position, book}
 use Rattle.faithful.specs.Answers.{AreDifferent}
-use Rattle.faithful.specs.Rules.{AllKnown, BySkips, AreFaithful, AllHaveTold}
+use Rattle.faithful.specs.Rules.{HasNode, HasRing, AllKnown, BySkips, AreFaithful, AllHaveTold}
 
 -- ---- the deployment
 
@@ -104,6 +104,8 @@ pub record PartTold (c : Config) (lines : List Line) (p : RingPart) : Type 0 whe
 
 -- a ring as the deployment has it for a node
 pub record IsPlaced (c : Config) (x : NodeId) (ring : Ring) : Type 0 where
+  pub fits_node : HasNode c ring.own
+  pub fits_ring : HasRing c ring.id
   pub own : ring.own ≡ x
   pub subscribers : ring.subscribers ≡ subscribers_of c.partitions ring.id
 

@@ -2,7 +2,7 @@
 use Rattle.protocol.specs.Rings.{is_acceptor}
 use Rattle.protocol.specs.Learner.{chosen, decided}
 use Rattle.protocol.specs.Coordinator.{submits, refused, promised}
-use Rattle.step_lines.proofs.Rounds.{answers_stays}
+use Rattle.step_lines.proofs.Rounds.{own_placed, answers_stays}
 use Rattle.command_codec.specs.Grammar.{command_of}
 use Rattle.protocol.specs.Trimming.{answers, trimmed}
 use Rattle.step_lines.proofs.Handlers.{prepares_stays, accepts_stays, chosen_stays, decided_stays, fetches_stays, promised_stays, refused_stays, submits_stays, trimmed_stays}
@@ -70,7 +70,7 @@ module _ (c : Config) (fit : IsFit c) (before : List Line) (a : Acting) (placed 
 
   safe_goes : (from : NodeId) (ring : RingId) (round inst : ℕ) → IsSafe c before ring (from, inst) → Goes c before a (takes_body c from (Safe ring round inst) a)
   safe_goes from ring round inst safe = acceptor_goes c fit before ring a (λ r part view. answers r view.link part from round inst)
-      (λ p e t. answers_stays c before p.ring (part_placed (IsPlaced c a.view.id) a.view.parts ring p placed e).subscribers a.view.link p.part from round inst t.round
+      (λ p e t. answers_stays c before p.ring (own_placed c a.view.id p.ring (part_placed (IsPlaced c a.view.id) a.view.parts ring p placed e)) a.view.link p.part from round inst t.round
       (subst (λ (r : RingId). IsSafe c before r (from, inst)) (sym (part_ring a.view.parts ring p e)) safe))
 
   pub submit_goes : (ring : RingId) (hops : ℕ) (client : ClientId) (seq : ℕ) (command : List ℕ) → Goes c before a (takes_submit c ring hops client seq command a)
