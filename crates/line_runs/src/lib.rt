@@ -26,7 +26,7 @@ ghost use Rattle.bare_world.specs.Worlds.{Happening, Possible, Up, nothing};
 ghost use Rattle.bare_world.specs.Runs.{run};
 ghost use Rattle.faithful.specs.Rules.{AllKnown, Begins, Chooses, Delivers, Refuses, Restores, Saves, Trims};
 ghost use Rattle.faithful.specs.Scanners.{Reaches, entry_of, some_reaches, told};
-ghost use Rattle.recovery_lines.specs.Ties.{IsAnswer, IsCovered, IsFit, IsSafe, newest_of};
+ghost use Rattle.recovery_lines.specs.Ties.{IsAnswer, IsCovered, IsFit, TellsSafe, newest_of};
 ghost use Rattle.line_runs.specs.Invariant.{latest_first, node};
 ghost use Rattle.line_runs.specs.Laws.{HaveOneValue, IsHeld, IsPossible, IsRun, KeepsTold, NodeSent, StartsPast, host_of, lines_of, trim_told};
 
@@ -104,15 +104,15 @@ pub fn checkpoints_are_kept()
 
 /// The safe rule Restore, but for the bytes. An answer that names an attempt was told by its sender, after the attempt began: it
 /// reaches all that the sender had told by then. A frame that says that a checkpoint is gone names a newer one that its sender
-/// told, and an answer to a round of trimming names what its sender told. A ready replica stands at a valid tuple below which
-/// every place is in the book, at or past its newest checkpoint.
+/// told. An answer to a round of trimming comes from a replica of a subscribed partition, and names 0 or an entry that it told.
+/// A ready replica stands at a valid tuple below which every place is in the book, at or past its newest checkpoint.
 pub fn recoveries_are_safe()
     ensures answers { (c : Config) (hs : List Happening) → IsRun c hs → (sent : Sent) (from to : NodeId) (epoch attempt : ℕ) (tuple : List (RingId × ℕ)) → Has (run c hs nothing).frames sent
         → NodeSent sent from to (HaveCheckpoint epoch attempt tuple) → IsAnswer (latest_first (lines_of c hs)) to.0 epoch attempt from.0 (instances tuple) }
     ensures newer { (c : Config) (hs : List Happening) → IsRun c hs → (sent : Sent) (from to : NodeId) (epoch attempt : ℕ) (asked newer : List (RingId × ℕ)) → Has (run c hs nothing).frames sent
         → NodeSent sent from to (Gone epoch attempt asked newer) → Has (told from.0 (latest_first (lines_of c hs))) (instances newer) }
     ensures safe { (c : Config) (hs : List Happening) → IsRun c hs → (sent : Sent) (from to : NodeId) (ring : RingId) (round inst : ℕ) → Has (run c hs nothing).frames sent
-        → NodeSent sent from to (Safe ring round inst) → IsSafe c (latest_first (lines_of c hs)) ring (from, inst) }
+        → NodeSent sent from to (Safe ring round inst) → TellsSafe c (latest_first (lines_of c hs)) ring (from, inst) }
     ensures valid { (c : Config) (hs : List Happening) → IsRun c hs → (n : ℕ) (view : View) (service : Service) (standing : Standing) → host_of c hs n ≡ Up view → view.service ≡ Some service
         → service.stage ≡ Ready standing → is_tuple_of (round_sizes c) service.partition.rings standing.tuple ≡ true }
     ensures known { (c : Config) (hs : List Happening) → IsRun c hs → (n : ℕ) (view : View) (service : Service) (standing : Standing) → host_of c hs n ≡ Up view → view.service ≡ Some service

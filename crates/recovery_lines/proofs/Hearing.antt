@@ -27,10 +27,10 @@ use Rattle.protocol.specs.Recovery.{epoch_of, own_tuple, tuple_of_newest, is_of,
 use Rattle.protocol.specs.Step.{tells_safe}
 use Rattle.faithful.specs.Scanners.{Mark, Begun, Restored, touches, life, before_attempt, lines_before_this, or_else, told, tuples_told, entry_of, Reaches, some_reaches}
 use Rattle.faithful.specs.Rules.{AllKnown}
-use Rattle.recovery_lines.specs.Ties.{IsFit, IsAnswer, IsSafe, IsSaid, BodySaid, OwnLines, AnswerLines, ChoiceLines, ChosenLines, StageLines, ActLines, AfterLines, newest_of}
+use Rattle.recovery_lines.specs.Ties.{IsFit, IsAnswer, TellsSafe, IsSaid, BodySaid, OwnLines, AnswerLines, ChoiceLines, ChosenLines, StageLines, ActLines, AfterLines, newest_of}
 use Rattle.faithful.proofs.Growing.{same_number, all_more}
 use Rattle.faithful.proofs.Ordering.{Reaches-trans, rings_fit, after_reaches}
-use Rattle.faithful.proofs.Quorum.{all_has, appended, mapped, different_more, is_some_reaches, partition_there}
+use Rattle.faithful.proofs.Quorum.{all_has, appended, mapped, different_more, is_some_reaches, partition_there, subscribed}
 use Rattle.recovery_lines.proofs.Printing.{said_sends, said_others, sends_done, stage_done}
 use Rattle.recovery_lines.proofs.Choosing.{restored, choosing}
 use Rattle.recovery_lines.proofs.Beginning.{quorum_chooses, beginning}
@@ -172,16 +172,17 @@ module _ (c : Config) (fit : IsFit c) (before : List Line) (a : Acting) (lines :
         subst (λ (s : Option Service). AfterLines c before (tells_safe from ring round (safe_of a.view ring s) a)) (sym there)
         (by_test (λ (o : Option ℕ). AfterLines c before (tells_safe from ring round o a)) (has_ring service.partition.rings ring.0) _ None
         (λ e. sent_lines (sends_to a.view.id from (Safe ring round (safe_in ring a.view.checks.newest)))
-        (said_sends c lines a.view.id from (Safe ring round (safe_in ring a.view.checks.newest)) safe)) as_it_was)
+        (said_sends c lines a.view.id from (Safe ring round (safe_in ring a.view.checks.newest)) (safe e))) as_it_was)
       where
-        some_same : (u v : PartitionTable) → Some u ≡ Some v → u ≡ v
-        some_same u v t = cc
-
-        safe : IsSafe c lines ring (a.view.id, safe_in ring a.view.checks.newest)
-        safe p has replica =
-            let same : service.partition ≡ p = some_same service.partition p (sym own.replica ∙ fit.alone p a.view.id (in_partitions ring c.partitions p has) replica) in
-            subst (λ (q : PartitionTable). (safe_in ring a.view.checks.newest ≡ 0) ⊎ (some_reaches q.rings ring (safe_in ring a.view.checks.newest) (told a.view.id.0 lines) ≡ true)) same
-            (own_safe c lines a.view.id.0 ring service.partition a.view.checks.newest mine own.kept.valid)
+        safe : has_ring service.partition.rings ring.0 ≡ true → TellsSafe c lines ring (a.view.id, safe_in ring a.view.checks.newest)
+        safe e =
+            let p = partition_there c.partitions a.view.id service.partition own.replica in
+            record {
+              partition = service.partition;
+              subscribes = subscribed c.partitions ring service.partition p.there e;
+              replica = p.replica;
+              told = own_safe c lines a.view.id.0 ring service.partition a.view.checks.newest mine own.kept.valid;
+            }
 
     -- ---- an attempt
 

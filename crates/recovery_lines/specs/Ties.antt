@@ -59,17 +59,24 @@ pub record IsAnswer (lines : List Line) (x e n r : ℕ) (printed : List ℕ) : T
   pub tells : Has (told r lines) printed
   pub reaches : (earlier : List ℕ) → Has (told r before) earlier → Reaches printed earlier
 
--- a node of a subscribed partition told an entry of the ring of at least this, or it is 0
+-- where a node is a replica of a subscribed partition, it told an entry of the ring of at least this, or it is 0
 abbrev pub IsSafe : Config → List Line → RingId → NodeId × ℕ → Type 0
 IsSafe c lines ring answer =
     (p : PartitionTable) → Has (subscribers_of c.partitions ring) p → has_node p.replicas answer.0.0 ≡ true
     → (answer.1 ≡ 0) ⊎ (some_reaches p.rings ring answer.1 (told answer.0.0 lines) ≡ true)
 
+-- and it is one of such a partition
+pub record TellsSafe (c : Config) (lines : List Line) (ring : RingId) (answer : NodeId × ℕ) : Type 0 where
+  pub partition : PartitionTable
+  pub subscribes : Has (subscribers_of c.partitions ring) partition
+  pub replica : has_node partition.replicas answer.0.0 ≡ true
+  pub told : (answer.1 ≡ 0) ⊎ (some_reaches partition.rings ring answer.1 (told answer.0.0 lines) ≡ true)
+
 abbrev pub BodySaid : Config → List Line → NodeId → NodeId → Body → Type 0
 BodySaid c lines from to (AskCheckpoint e n) = (before : List Line) × (before_attempt from.0 e n lines ≡ Some before)
 BodySaid c lines from to (HaveCheckpoint e n tuple) = IsAnswer lines to.0 e n from.0 (instances tuple)
 BodySaid c lines from to (Gone e n asked newer) = (from.0 ≡ to.0 → ⊥) × Has (told from.0 lines) (instances newer)
-BodySaid c lines from to (Safe ring round inst) = IsSafe c lines ring (from, inst)
+BodySaid c lines from to (Safe ring round inst) = TellsSafe c lines ring (from, inst)
 BodySaid c lines from to (Promise ring ballot lo hi trim votes) = IsCovered c lines ring trim
 BodySaid c lines from to (Trimmed ring trim) = IsCovered c lines ring trim
 BodySaid c lines from to (TrimTo ring trim) = IsCovered c lines ring trim
