@@ -6,3 +6,4 @@ pub mod Fitting
 pub mod Agreeing
 pub mod Laws
 pub mod Holding
+pub mod Telling

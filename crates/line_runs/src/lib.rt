@@ -26,9 +26,9 @@ ghost use Rattle.bare_world.specs.Worlds.{Happening, Possible, Up, nothing};
 ghost use Rattle.bare_world.specs.Runs.{run};
 ghost use Rattle.faithful.specs.Rules.{AllKnown, Begins, Chooses, Delivers, Refuses, Restores, Saves, Trims};
 ghost use Rattle.faithful.specs.Scanners.{Reaches, entry_of, some_reaches, told};
-ghost use Rattle.recovery_lines.specs.Ties.{IsAnswer, IsCovered, IsFit, TellsSafe, newest_of};
+ghost use Rattle.recovery_lines.specs.Ties.{IsAnswer, IsCovered, IsFit, TellsSafe, TellsTuple, newest_of};
 ghost use Rattle.line_runs.specs.Invariant.{latest_first, node};
-ghost use Rattle.line_runs.specs.Laws.{HaveOneValue, IsHeld, IsPossible, IsRun, KeepsTold, NodeSent, StartsPast, host_of, lines_of, trim_told};
+ghost use Rattle.line_runs.specs.Laws.{HaveOneValue, IsHeld, IsPossible, IsRun, KeepsTold, NodeSent, ReachesTold, StartsPast, checkpoints_of, host_of, lines_of, trim_told};
 
 /// Rule F2. A node delivers only while it is ready, the place that it delivers holds a batch, and from the place where it
 /// stood only skips lie before it: so a replica goes through the one order of its rings without a gap, and never back. A save
@@ -93,13 +93,19 @@ pub fn trims_are_covered()
 {}
 
 /// The safe rule Save, but for the bytes. In each state that a replica's disk may stand for the newest tuple is a valid one, all
-/// below it is in the book, and it reaches every tuple that the node told. Below each tuple that some line or frame tells, too,
-/// every place is in the book.
+/// below it is in the book, and it reaches every tuple that the node told. Below each tuple that a begin or saved line tells every
+/// place is in the book. A checkpoint that a frame from node to node names or carries was told by its node, is a valid tuple of
+/// that node's partition, and every place below it is in the book. What a replica told, in a line or in a frame, is reached by the
+/// newest checkpoint of each of its possible states.
 pub fn checkpoints_are_kept()
     ensures disks { (c : Config) (hs : List Happening) → IsRun c hs → (n : ℕ) (s : Possible) (p : PartitionTable) → IsPossible (host_of c hs n) s → partition_of c.partitions (node n) ≡ Some p
         → KeepsTold c (latest_first (lines_of c hs)) n p s }
     ensures told { (c : Config) (hs : List Happening) → IsRun c hs → (x : NodeId) (p : PartitionTable) (k : List (RingId × ℕ)) → partition_of c.partitions x ≡ Some p
         → is_tuple_of (round_sizes c) p.rings k ≡ true → Has (told x.0 (latest_first (lines_of c hs))) (instances k) → AllKnown (latest_first (lines_of c hs)) k }
+    ensures frames { (c : Config) (hs : List Happening) → IsRun c hs → (sent : Sent) (from to : NodeId) (body : Body) (x : NodeId) (tuple : List (RingId × ℕ)) → Has (run c hs nothing).frames sent
+        → NodeSent sent from to body → Has (checkpoints_of from to body) (x, tuple) → TellsTuple c (latest_first (lines_of c hs)) x tuple × AllKnown (latest_first (lines_of c hs)) tuple }
+    ensures reached { (c : Config) (hs : List Happening) → IsRun c hs → (n : ℕ) (s : Possible) (p : PartitionTable) → IsPossible (host_of c hs n) s → partition_of c.partitions (node n) ≡ Some p
+        → ReachesTold c hs (node n) p s }
 {}
 
 /// The safe rule Restore, but for the bytes. An answer that names an attempt was told by its sender, after the attempt began: it

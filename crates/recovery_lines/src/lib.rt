@@ -24,7 +24,7 @@ ghost use Rattle.protocol.specs.Step.{behind};
 ghost use Rattle.protocol.specs.Tick.{saves_first};
 ghost use Rattle.faithful.specs.Scanners.{Reaches, before_attempt, told};
 ghost use Rattle.faithful.specs.Rules.{IsReached};
-ghost use Rattle.recovery_lines.specs.Ties.{ActLines, AfterLines, AttemptLines, IsAnswer, IsFit, KeptLines, OwnLines, ServiceLines, StageLines, StepLines, ViewLines, newest_of};
+ghost use Rattle.recovery_lines.specs.Ties.{ActLines, AfterLines, AttemptLines, IsAnswer, IsFit, KeptLines, OwnLines, ServiceLines, StageLines, StepLines, TellsTuple, ViewLines, newest_of};
 
 /// A tuple at or past all answers of an attempt that a recovery quorum has answered reaches each trim whose line stands before
 /// the attempt's begin line: a trim quorum told an entry that reaches the trim by then, and one of these replicas answered since.
@@ -52,7 +52,7 @@ pub fn frames_of_recovery()
         → ((earlier : List Line) × (before_attempt from.0 epoch number lines ≡ Some earlier)) → AfterLines c before (tells_checkpoint service from epoch number a) }
     ensures asked_part { (c : Config) → IsFit c → (before : List Line) (a : Acting) (lines : List Line) → ActLines c before lines a → (service : Service)
         → ServiceLines c lines a.view.id (epoch_of a.view) a.view.checks.newest service → (from : NodeId) (epoch number : ℕ) (tuple : List (RingId × ℕ)) (offset : ℕ)
-        → AfterLines c before (tells_part c service from epoch number tuple offset a) }
+        → TellsTuple c lines a.view.id tuple → AfterLines c before (tells_part c service from epoch number tuple offset a) }
     ensures answered { (c : Config) → IsFit c → (before : List Line) (a : Acting) (lines : List Line) → ActLines c before lines a → (service : Service) (attempt : Attempt)
         → ServiceLines c lines a.view.id (epoch_of a.view) a.view.checks.newest service
         → StageLines c lines a.view.id (epoch_of a.view) a.view.checks.newest service.partition (Recovering attempt) → (from : NodeId) (epoch number : ℕ) (tuple : List (RingId × ℕ))

@@ -142,12 +142,12 @@ module _ (c : Config) (fit : IsFit c) (before : List Line) (a : Acting) (placed 
   body_goes from (AskCheckpoint epoch attempt) s = by_service (λ q. tells_checkpoint q from epoch attempt) (λ q. onward_sends c before _ a)
       (λ q lines ties e r. checkpoint_told c fit before a lines ties q r.own r.told from epoch attempt (still lines ties from a.view.id (AskCheckpoint epoch attempt) s))
   body_goes from (HaveCheckpoint epoch attempt tuple) s = by_attempt (λ q now. answered_by c q now from epoch attempt tuple) (λ q now. answered_onward c before q now from epoch attempt tuple a)
-      (λ q now lines ties r st. answer_taken c fit before a lines ties q r.own r.told now st from epoch attempt tuple (still lines ties from a.view.id (HaveCheckpoint epoch attempt tuple) s))
+      (λ q now lines ties r st. answer_taken c fit before a lines ties q r.own r.told now st from epoch attempt tuple (still lines ties from a.view.id (HaveCheckpoint epoch attempt tuple) s).0)
   body_goes from (AskPart epoch attempt tuple offset) s = by_service (λ q. tells_part c q from epoch attempt tuple offset) (λ q. tells_part_onward c before q from epoch attempt tuple offset a)
-      (λ q lines ties e r. part_told c fit before a lines ties q r.own r.told from epoch attempt tuple offset)
+      (λ q lines ties e r. part_told c fit before a lines ties q r.own r.told from epoch attempt tuple offset (still lines ties from a.view.id (AskPart epoch attempt tuple offset) s))
   body_goes from (PartFrame epoch attempt tuple offset total bytes) s = by_attempt (λ q now. takes_part c q now from epoch attempt tuple offset total bytes) (λ q now. part_onward c before q now from epoch attempt tuple offset total bytes a)
       (λ q now lines ties r st. part_taken c fit before a lines ties q r.own r.told now st from epoch attempt tuple offset total bytes)
   body_goes from (Gone epoch attempt asked newer) s = by_attempt (λ q now. takes_gone c q now from epoch attempt asked newer) (λ q now. gone_onward c before q now from epoch attempt asked newer a)
-      (λ q now lines ties r st. gone_taken c fit before a lines ties q r.own r.told now st from epoch attempt asked newer s.0 (still lines ties from a.view.id (Gone epoch attempt asked newer) s).1)
+      (λ q now lines ties r st. gone_taken c fit before a lines ties q r.own r.told now st from epoch attempt asked newer s.0 (still lines ties from a.view.id (Gone epoch attempt asked newer) s).1.1.told)
   body_goes from (Reply client seq partition reply) s = Goes-refl c before a
   body_goes from Hello s = Goes-refl c before a
