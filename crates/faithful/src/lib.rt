@@ -49,16 +49,14 @@ pub fn groups_share()
         → count_by (λ (answer : NodeId × List (RingId × ℕ)). has_node nodes answer.0.0) answers ≤ count_by (λ (n : NodeId). test n.0) nodes }
 {}
 
-/// A valid tuple that is moved past its next place: it is valid, at or after, and not the same; what is below it is what was below
-/// it and that place; and the tuple of the next place is the tuple itself.
+/// A valid tuple that is moved past its next place is at or after what it was, and not the same. All below it is known where all
+/// below it was and that place is; and it is reached by skips where it was and that place is Skip.
 pub fn tuples_move()
-    ensures valid { (m : ℕ → ℕ) (rings : List RingId) (k : List (RingId × ℕ)) → is_tuple_of m rings k ≡ true → is_tuple_of m rings (past m k) ≡ true }
     ensures reaches { (m : ℕ → ℕ) (rings : List RingId) (k : List (RingId × ℕ)) → is_tuple_of m rings k ≡ true → Reaches (instances (past m k)) (instances k) }
     ensures later { (m : ℕ → ℕ) (k : List (RingId × ℕ)) → 0 < length k → Reaches (instances k) (instances (past m k)) → ⊥ }
     ensures known { (m : ℕ → ℕ) (lines : List Line) (k : List (RingId × ℕ)) → AllKnown lines k → IsKnown lines (next_place m k).0 (next_place m k).1 → AllKnown lines (past m k) }
     ensures skips { (m : ℕ → ℕ) (rings : List RingId) (lines : List Line) (from k : List (RingId × ℕ)) → BySkips m rings lines from k
         → book lines (next_place m k).0 (next_place m k).1 ≡ Some Skip → BySkips m rings lines from (past m k) }
-    ensures next { (m : ℕ → ℕ) (rings : List RingId) (k : List (RingId × ℕ)) → ((r : ℕ) → 0 < m r) → is_tuple_of m rings k ≡ true → 0 < length k → tuple_at m rings (place_of (next_place m k)) ≡ k }
 {}
 
 /// The order of tuples as lines print them is that of the valid tuples: at or after, after, and the same.

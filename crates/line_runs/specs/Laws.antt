@@ -30,12 +30,6 @@ HaveOneValue lines =
     (m n : NodeId) (ring : RingId) (lo hi lo' hi' inst : ℕ) (value value' : Value) → Has lines (Learn m ring lo hi value) → Has lines (Learn n ring lo' hi' value')
     → lo ≤ inst → inst < hi → lo' ≤ inst → inst < hi' → value ≡ value'
 
--- each learn line has the value of each earlier learn line of the ring that covers an instance of it
-abbrev pub AgreeInTurn : List Line → Type 0
-AgreeInTurn lines =
-    (before after : List Line) (n : NodeId) (ring : RingId) (lo hi : ℕ) (value : Value) → lines ≡ before ++ Learn n ring lo hi value ∷ after
-    → (m : NodeId) (low high : ℕ) (earlier : Value) → Has before (Learn m ring low high earlier) → (inst : ℕ) → lo ≤ inst → inst < hi → low ≤ inst → inst < high → earlier ≡ value
-
 -- a run of a valid deployment, from the world in which no node has opened yet
 pub record IsRun (c : Config) (hs : List Happening) : Type 0 where
   pub valid : IsValid c
