@@ -6,7 +6,7 @@
 //! here: a line of those kinds owes nothing by these definitions.
 #![tactic(auto)]
 
-ghost use Rattle.std.specs.Prelude.{◌≡◌, ◌<◌, ◌≤◌, ◌+◌, ℕ, Bool, true, false, List, ◌∷◌, ◌++◌, Option, Some, count_by, length};
+ghost use Rattle.std.specs.Prelude.{◌≡◌, ◌<◌, ◌≤◌, ◌+◌, ℕ, Bool, true, false, List, [], ◌∷◌, ◌++◌, Option, Some, count_by, length};
 ghost use Rattle.std.specs.List.{AllByRecursion};
 ghost use Rattle.mrp_types.specs.declared.id.NodeId.{NodeId};
 ghost use Rattle.mrp_types.specs.declared.id.RingId.{RingId};
@@ -15,6 +15,7 @@ ghost use Rattle.mrp_types.specs.declared.value.Value.TheVariants.{Skip};
 ghost use Rattle.mrp_config.specs.Config.{has_node};
 ghost use Rattle.quorums.specs.Groups.{Has};
 ghost use Rattle.plain_model.specs.Tuples.{instances, is_at_or_after, is_tuple_of, next_place, past, place_of, tuple_at};
+ghost use Rattle.plain_model.specs.Lines as plain;
 ghost use Rattle.checkpoint.specs.Checks.{is_after};
 ghost use Rattle.protocol.specs.Lines.{Line};
 ghost use Rattle.faithful.specs.Scanners.{Reaches, before_attempt, begun, book, paired, told, touches};
@@ -38,6 +39,11 @@ pub fn lines_only_grow()
     ensures begun { (x : ℕ) (l : Line) (before : List Line) (attempt : ℕ × ℕ) → Has (begun x before) attempt → Has (begun x (l ∷ before)) attempt }
     ensures first { (x epoch attempt : ℕ) (l : Line) (before earlier : List Line) → before_attempt x epoch attempt before ≡ Some earlier → before_attempt x epoch attempt (l ∷ before) ≡ Some earlier }
     ensures joined { (before xs ys : List Line) → scanners.past before (xs ++ ys) ≡ scanners.past (scanners.past before xs) ys }
+{}
+
+/// The book of lines that stand with the latest first is the book of the plain model over these lines in order.
+pub fn one_book()
+    ensures { (lines : List Line) (ring : RingId) (inst : ℕ) → book (scanners.past [] lines) ring inst ≡ plain.book lines ring inst }
 {}
 
 /// Two groups of nodes that together are more than all share one; and of nodes that answered once at most, no more are counted
