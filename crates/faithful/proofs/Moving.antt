@@ -1,15 +1,13 @@
 -- A valid tuple moved past its next place: valid, at or after, and not the same.
-use Rattle.std.proofs.Common.{◌≡◌, ℕ, suc, ◌+◌, ◌<◌, ◌≤◌, inl, inr, Bool, true, false, List, [], ◌∷◌, Some, refl, sym, ◌∙◌, ap, subst, arith, le_refl, true≢false}
-use Rattle.std.specs.Prelude.{◌==◌, if◌then◌else◌, ◌&&◌, length}
-use Rattle.std.proofs.lemmas.Bool.{cases_lt, cases_order}
+use Rattle.std.proofs.Common.{◌≡◌, ℕ, suc, ◌+◌, ◌<◌, ◌≤◌, inl, inr, Bool, true, false, List, [], ◌∷◌, Some, refl, sym, ap, subst, arith, le_refl, true≢false}
+use Rattle.std.specs.Prelude.{◌==◌, if◌then◌else◌, length}
+use Rattle.std.proofs.lemmas.Bool.{cases_lt}
 use Rattle.std.proofs.lemmas.Bool.Decides.{nat_tests}
 use Rattle.mrp_types.specs.declared.id.RingId.{RingId}
 use Rattle.mrp_types.specs.declared.place.Place.{Place}
 use Rattle.mrp_types.specs.declared.value.Value.TheVariants.{Skip}
-use Rattle.plain_model.specs.Tuples.{place_of, next_place, moved_past, past, is_valid_tuple, has_rings, is_tuple_of, instances, count_before, tuple_at, IsOneOf, IsBelow, IsNotBelow}
-use Rattle.plain_model.proofs.TupleOrder.{split_and, same_number, next_is_one, none_before_next, valid_is_front, front_is_valid, past_is_front, below_past, not_below_by, below_by}
-use Rattle.plain_model.proofs.TupleChain.{by_entries, by_parts_of_list}
-use Rattle.plain_model.proofs.TupleAt.{count-before, by_number}
+use Rattle.plain_model.specs.Tuples.{place_of, next_place, moved_past, past, is_valid_tuple, has_rings, is_tuple_of, instances, IsOneOf, IsBelow, IsNotBelow}
+use Rattle.plain_model.proofs.TupleOrder.{same_number, next_is_one, valid_is_front, front_is_valid, past_is_front, below_past, not_below_by, below_by}
 use Rattle.protocol.specs.Lines.{Line}
 use Rattle.faithful.specs.Scanners.{Reaches, book}
 use Rattle.faithful.specs.Rules.{IsKnown, AllKnown, BySkips}

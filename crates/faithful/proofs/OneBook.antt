@@ -3,7 +3,7 @@ use Rattle.std.proofs.Common.{◌≡◌, ℕ, Bool, true, false, List, [], ◌�
 use Rattle.std.specs.Prelude.{◌==◌, nat_le, nat_lt, ◌&&◌, if◌then◌else◌}
 use Rattle.mrp_types.specs.declared.id.RingId.{RingId}
 use Rattle.mrp_types.specs.declared.value.Value.{Value}
-use Rattle.mrp_types.specs.Book.{Learning, book_of}
+use Rattle.mrp_types.specs.Book.{book_of}
 use Rattle.plain_model.specs.Lines.{learnings}
 use Rattle.plain_model.specs.Lines as plain
 use Rattle.protocol.specs.Lines.{Line, Learn}

@@ -1,6 +1,6 @@
 -- The words in which the laws of every run are said. A run's lines stand in the order in which they were printed; "the lines
 -- before" a line are turned round by `latest_first`, as the definitions of what is read of lines want them.
-use Rattle.std.specs.Prelude.{◌≡◌, ℕ, ◌<◌, ◌≤◌, ◌⊎◌, true, List, [], Option, Some, None, ◌++◌, ◌∷◌, length, Bool, count_by}
+use Rattle.std.specs.Prelude.{◌≡◌, ℕ, ◌<◌, ◌≤◌, ◌⊎◌, true, List, [], Option, Some, None, ◌∷◌, length, Bool, count_by}
 use Rattle.mrp_types.specs.declared.id.NodeId.{NodeId}
 use Rattle.mrp_types.specs.declared.id.RingId.{RingId}
 use Rattle.mrp_types.specs.declared.id.Party.TheVariants.{Node}

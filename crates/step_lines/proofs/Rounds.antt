@@ -30,7 +30,7 @@ use Rattle.step_lines.proofs.Words.{ring_sends_each, Stays-refl, Stays-trans, st
 pub told_safe : (c : Config) → IsFit c → (lines : List Line) (ring : RingId) (answer : NodeId × ℕ) → TellsSafe c lines ring answer → IsSafe c lines ring answer
 told_safe c fit lines ring answer s p has replica =
     let same : s.partition ≡ p = some_same s.partition p
-        (sym (fit.alone s.partition answer.0 (in_partitions ring c.partitions s.partition s.subscribes) s.replica) ∙ fit.alone p answer.0 (in_partitions ring c.partitions p has) replica) in
+    (sym (fit.alone s.partition answer.0 (in_partitions ring c.partitions s.partition s.subscribes) s.replica) ∙ fit.alone p answer.0 (in_partitions ring c.partitions p has) replica) in
     subst (λ (q : PartitionTable). (answer.1 ≡ 0) ⊎ (some_reaches q.rings ring answer.1 (told answer.0.0 lines) ≡ true)) same s.told
   where
     some_same : (u v : PartitionTable) → Some u ≡ Some v → u ≡ v
