@@ -45,7 +45,8 @@ pub fn words_of_recovery()
 {}
 
 /// A frame of recovery at a replica: what it is asked, an answer to its attempt, a part of the chosen checkpoint, and word that
-/// this one is gone. What such a frame says of its sender has to be so of the lines.
+/// this one is gone. What such a frame says of its sender, or of this replica where it asks for a part of what that told, has to
+/// be so of the lines.
 pub fn frames_of_recovery()
     ensures asked { (c : Config) → IsFit c → (before : List Line) (a : Acting) (lines : List Line) → ActLines c before lines a → (service : Service)
         → ServiceLines c lines a.view.id (epoch_of a.view) a.view.checks.newest service → (from : NodeId) (epoch number : ℕ)
