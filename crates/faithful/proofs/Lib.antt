@@ -4,3 +4,4 @@ pub mod Quorum
 pub mod Between
 pub mod Moving
 pub mod OneMore
+pub mod OneBook

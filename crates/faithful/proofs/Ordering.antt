@@ -1,12 +1,12 @@
 -- Tuples as lines print them, and the order of valid tuples.
-use Rattle.std.proofs.Common.{◌≡◌, ℕ, ◌≤◌, ◌⊎◌, inl, inr, Bool, true, false, IsTrue, List, [], ◌∷◌, refl, sym, arith, le_refl, le_trans, true≢false}
+use Rattle.std.proofs.Common.{◌≡◌, ℕ, ◌≤◌, ◌⊎◌, inl, inr, Bool, true, false, List, [], ◌∷◌, refl, sym, arith, le_refl, le_trans, true≢false}
 use Rattle.std.specs.Prelude.{◌==◌, nat_lt, nat_le, ◌&&◌, ◌||◌}
 use Rattle.std.proofs.lemmas.Bool.Decides.{nat_tests}
 use Rattle.mrp_types.specs.declared.id.RingId.{RingId}
 use Rattle.checkpoint.specs.Checks.{is_same_tuple, is_after}
 use Rattle.plain_model.specs.Tuples.{is_at_or_after, has_rings, is_valid_tuple, is_tuple_of, instances}
 use Rattle.plain_model.proofs.TupleOrder.{split_and, both_true, same_number}
-use Rattle.plain_model.proofs.TupleChain.{one_reaches, later_rings, by_entries, by_parts_of_list}
+use Rattle.plain_model.proofs.TupleChain.{le_is, is_le, one_reaches, later_rings, by_entries, by_parts_of_list}
 use Rattle.faithful.specs.Scanners.{paired, Reaches}
 
 pub Reaches-refl : (xs : List ℕ) → Reaches xs xs
@@ -31,12 +31,6 @@ is_valid m rings k h = (split_and (has_rings rings k) (is_valid_tuple m k) h).1
 pub is_tuple : (m : ℕ → ℕ) (rings : List RingId) (k : List (RingId × ℕ)) → has_rings rings k ≡ true → is_valid_tuple m k ≡ true → is_tuple_of m rings k ≡ true
 is_tuple m rings k h v = both_true (has_rings rings k) (is_valid_tuple m k) h v
 
-le_is : (a b : ℕ) → IsTrue (nat_le a b) → a ≤ b
-le_is a b h = grind arith
-
-is_le : (a b : ℕ) → a ≤ b → IsTrue (nat_le a b)
-is_le a b h = grind arith
-
 pub reaches_is : (rings : List RingId) (a b : List (RingId × ℕ)) → has_rings rings a ≡ true → has_rings rings b ≡ true → is_at_or_after a b ≡ true → Reaches (instances a) (instances b)
 reaches_is [] [] [] ha hb h = tt
 reaches_is [] [] (y ∷ ys) ha hb h = absurd (true≢false (sym hb))
@@ -45,19 +39,19 @@ reaches_is (ring ∷ rings) [] b ha hb h = absurd (true≢false (sym ha))
 reaches_is (ring ∷ rings) (x ∷ xs) [] ha hb h = absurd (true≢false (sym hb))
 reaches_is (ring ∷ rings) (x ∷ xs) (y ∷ ys) ha hb h =
     let s = split_and (nat_le y.1 x.1) (is_at_or_after xs ys) h in
-    (le_is y.1 x.1 s.0, reaches_is rings xs ys (later_rings ring rings x xs ha) (later_rings ring rings y ys hb) s.1)
+    (is_le y.1 x.1 s.0, reaches_is rings xs ys (later_rings ring rings x xs ha) (later_rings ring rings y ys hb) s.1)
 
 pub is_reaches : (a b : List (RingId × ℕ)) → Reaches (instances a) (instances b) → is_at_or_after a b ≡ true
 is_reaches [] [] r = refl
 is_reaches [] (y ∷ ys) r = absurd r
 is_reaches (x ∷ xs) [] r = absurd r
-is_reaches (x ∷ xs) (y ∷ ys) r = both_true (nat_le y.1 x.1) (is_at_or_after xs ys) (is_le y.1 x.1 r.0) (is_reaches xs ys r.1)
+is_reaches (x ∷ xs) (y ∷ ys) r = both_true (nat_le y.1 x.1) (is_at_or_after xs ys) (le_is y.1 x.1 r.0) (is_reaches xs ys r.1)
 
-or_false : (a b : Bool) → (a || b) ≡ false → (a ≡ false) × (b ≡ false)
+pub or_false : (a b : Bool) → (a || b) ≡ false → (a ≡ false) × (b ≡ false)
 or_false true b e = absurd (true≢false e)
 or_false false b e = (refl, e)
 
-or_true : (a b : Bool) → (a || b) ≡ true → (a ≡ true) ⊎ (b ≡ true)
+pub or_true : (a b : Bool) → (a || b) ≡ true → (a ≡ true) ⊎ (b ≡ true)
 or_true true b e = inl refl
 or_true false b e = inr e
 

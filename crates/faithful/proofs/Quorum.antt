@@ -1,5 +1,5 @@
 -- Who answered and who told: two groups of a partition's replicas share one.
-use Rattle.std.proofs.Common.{◌≡◌, ℕ, suc, ◌+◌, ◌<◌, ◌≤◌, ◌⊎◌, inl, inr, Bool, true, false, List, [], ◌∷◌, ◌++◌, Some, refl, sym, ◌∙◌, ap, subst, arith, true≢false, le_refl}
+use Rattle.std.proofs.Common.{◌≡◌, ℕ, suc, ◌+◌, ◌<◌, ◌≤◌, inl, inr, Bool, true, false, List, [], ◌∷◌, ◌++◌, Some, refl, sym, ◌∙◌, ap, subst, arith, true≢false, le_refl}
 use Rattle.std.specs.Prelude.{◌==◌, nat_eq, nat_le, if◌then◌else◌, not, ◌&&◌, ◌||◌, length, cond, count_by}
 use Rattle.std.specs.List.{AllByRecursion}
 use Rattle.std.proofs.lemmas.Bool.Decides.{nat_tests}
@@ -14,6 +14,7 @@ use Rattle.protocol.specs.Rings.{subscribers_of}
 use Rattle.protocol.specs.Trimming.{has_answered}
 use Rattle.faithful.specs.Scanners.{entry_of, Reaches, some_reaches}
 use Rattle.faithful.specs.Answers.{AreDifferent, Both}
+use Rattle.faithful.proofs.Ordering.{or_false, or_true}
 
 -- ---- lists
 
@@ -122,10 +123,6 @@ count_without test r (node ∷ nodes) has t =
         let le : suc less ≤ all = rest h in
         omega arith
 
-or_none : (a b : Bool) → (a || b) ≡ false → (a ≡ false) × (b ≡ false)
-or_none true b e = absurd (true≢false e)
-or_none false b e = (refl, e)
-
 -- as many different nodes that answered, and are among these and pass, as pass among these at most
 pub different_count : {T : Type 0} (nodes : List NodeId) (test : ℕ → Bool) (answers : List (NodeId × T)) → AreDifferent answers
     → AllByRecursion (λ (answer : NodeId × T). has_node nodes answer.0.0 ≡ true → test answer.0.0 ≡ true) answers
@@ -145,7 +142,7 @@ different_count {T} nodes test (answer ∷ answers) different all =
         → AllByRecursion (λ (other : NodeId × T). has_node nodes other.0.0 ≡ true → (test other.0.0 && not (other.0.0 == answer.0.0)) ≡ true) rest
     others [] none a = tt
     others (other ∷ rest) none a =
-        let s = or_none (other.0.0 == answer.0.0) (has_answered answer.0 rest) none in
+        let s = or_false (other.0.0 == answer.0.0) (has_answered answer.0 rest) none in
         (λ h. rw (a.0 h) (rw s.0 refl), others rest s.1 a.1)
 
     go : (b : Bool) → has_node nodes answer.0.0 ≡ b
@@ -163,10 +160,6 @@ different_count {T} nodes test (answer ∷ answers) different all =
 
 -- ---- who answered
 
-or_some : (a b : Bool) → (a || b) ≡ true → (a ≡ true) ⊎ (b ≡ true)
-or_some true b e = inl refl
-or_some false b e = inr e
-
 pub record AnswerOf {T : Type 0} (P : NodeId × T → Type 0) (node : NodeId) : Type 0 where
   pub answer : NodeId × T
   pub same : answer.0.0 ≡ node.0
@@ -174,7 +167,7 @@ pub record AnswerOf {T : Type 0} (P : NodeId × T → Type 0) (node : NodeId) : 
 
 pub answer_of : {T : Type 0} (P : NodeId × T → Type 0) (node : NodeId) (answers : List (NodeId × T)) → AllByRecursion P answers → has_answered node answers ≡ true → AnswerOf P node
 answer_of P node [] all h = absurd (true≢false (sym h))
-answer_of P node (answer ∷ answers) all h = elim (or_some (answer.0.0 == node.0) (has_answered node answers) h) [
+answer_of P node (answer ∷ answers) all h = elim (or_true (answer.0.0 == node.0) (has_answered node answers) h) [
   | inl here ↦ record { answer = answer; same = same_num answer.0.0 node.0 here; holds = all.0 }
   | inr there ↦ answer_of P node answers all.1 there
 ]
@@ -199,16 +192,16 @@ all_answered {T} (answer ∷ answers) = (
 pub different_more : {T : Type 0} (answers : List (NodeId × T)) (node : NodeId) (t : T) → AreDifferent answers → has_answered node answers ≡ false → AreDifferent (answers ++ (node, t) ∷ [])
 different_more [] node t d none = (refl, tt)
 different_more {T} (answer ∷ answers) node t d none =
-    let s = or_none (answer.0.0 == node.0) (has_answered node answers) none in
+    let s = or_false (answer.0.0 == node.0) (has_answered node answers) none in
     (still answers d.0, different_more answers node t d.1 s.1)
   where
     flip : (a b : ℕ) → (a == b) ≡ false → (b == a) ≡ false
     flip a b e = grind (arith, nat_tests)
 
     still : (rest : List (NodeId × T)) → has_answered answer.0 rest ≡ false → has_answered answer.0 (rest ++ (node, t) ∷ []) ≡ false
-    still [] e = rw (flip answer.0.0 node.0 (or_none (answer.0.0 == node.0) (has_answered node answers) none).0) refl
+    still [] e = rw (flip answer.0.0 node.0 (or_false (answer.0.0 == node.0) (has_answered node answers) none).0) refl
     still (other ∷ rest) e =
-        let s = or_none (other.0.0 == answer.0.0) (has_answered answer.0 rest) e in
+        let s = or_false (other.0.0 == answer.0.0) (has_answered answer.0 rest) e in
         rw s.0 (still rest s.1)
 
 -- ---- entries

@@ -7,7 +7,9 @@ use Rattle.mrp_types.specs.declared.id.RingId.{RingId}
 use Rattle.mrp_types.specs.declared.place.Place.{Place}
 use Rattle.mrp_types.specs.declared.value.Value.{Value}
 use Rattle.mrp_types.specs.declared.value.Value.TheVariants.{Skip, Batch}
-use Rattle.mrp_config.specs.Config.{Config, has_node, has_ring}
+use Rattle.mrp_config.specs.Config.{Config, node_at, ring_at, has_node, has_ring}
+use Rattle.mrp_config.specs.declared.tables.NodeTable.{NodeTable}
+use Rattle.mrp_config.specs.declared.tables.RingTable.{RingTable}
 use Rattle.mrp_config.specs.declared.tables.PartitionTable.{PartitionTable}
 use Rattle.quorums.specs.Groups.{Has}
 use Rattle.plain_model.specs.Tuples.{round_sizes, next_place, is_tuple_of, is_at_or_after, instances, IsBelow, IsNotBelow}
@@ -17,6 +19,13 @@ use Rattle.protocol.specs.Rings.{subscribers_of}
 use Rattle.faithful.specs.Scanners.{Restored, life, up_epoch, attempting, unchosen, chosen, before_begin, told, begun, entry_of, Reaches, some_reaches, position, book}
 
 -- ---- words
+
+-- the deployment has the node, and the ring
+abbrev pub HasNode : Config → NodeId → Type 0
+HasNode c node = (table : NodeTable) × (node_at c.nodes node.0 ≡ Some table)
+
+abbrev pub HasRing : Config → RingId → Type 0
+HasRing c ring = (table : RingTable) × (ring_at c.rings ring.0 ≡ Some table)
 
 -- a value stands in the book
 abbrev pub IsKnown : List Line → RingId → ℕ → Type 0
@@ -100,6 +109,12 @@ abbrev pub AllHaveTold : List Line → RingId → ℕ → List PartitionTable �
 AllHaveTold before ring inst [] = ⊥
 AllHaveTold before ring inst (p ∷ partitions) = AllByRecursion (HaveTold before ring inst) (p ∷ partitions)
 
+-- a trim line: its node and its ring are of the deployment
+pub record Trims (c : Config) (before : List Line) (node : NodeId) (ring : RingId) (inst : ℕ) : Type 0 where
+  pub fits_node : HasNode c node
+  pub fits_ring : HasRing c ring
+  pub told : AllHaveTold before ring inst (subscribers_of c.partitions ring)
+
 -- a begin line
 pub record Begins (c : Config) (before : List Line) (node : NodeId) (epoch attempt : ℕ) (printed : List ℕ) : Type 0 where
   pub partition : PartitionTable
@@ -126,7 +141,7 @@ IsFaithfulLine c before (Deliver node ring inst) = Delivers c before node ring i
 IsFaithfulLine c before (Saved node tuple) = Saves c before node tuple
 IsFaithfulLine c before (Chose node epoch attempt tuple from) = Chooses c before node epoch attempt tuple from
 IsFaithfulLine c before (Restore node tuple) = Restores c before node tuple
-IsFaithfulLine c before (Trim node ring inst) = AllHaveTold before ring inst (subscribers_of c.partitions ring)
+IsFaithfulLine c before (Trim node ring inst) = Trims c before node ring inst
 IsFaithfulLine c before (Begin node epoch attempt tuple) = Begins c before node epoch attempt tuple
 IsFaithfulLine c before (Refuse node epoch attempt answered needed) = Refuses c before node epoch attempt answered needed
 IsFaithfulLine c before other = Unit {0}

@@ -6,7 +6,7 @@
 //! here: a line of those kinds owes nothing by these definitions.
 #![tactic(auto)]
 
-ghost use Rattle.std.specs.Prelude.{◌≡◌, ◌<◌, ◌≤◌, ◌+◌, ℕ, Bool, true, false, List, ◌∷◌, ◌++◌, Option, Some, count_by, length};
+ghost use Rattle.std.specs.Prelude.{◌≡◌, ◌<◌, ◌≤◌, ◌+◌, ℕ, Bool, true, false, List, [], ◌∷◌, ◌++◌, Option, Some, count_by, length};
 ghost use Rattle.std.specs.List.{AllByRecursion};
 ghost use Rattle.mrp_types.specs.declared.id.NodeId.{NodeId};
 ghost use Rattle.mrp_types.specs.declared.id.RingId.{RingId};
@@ -15,6 +15,7 @@ ghost use Rattle.mrp_types.specs.declared.value.Value.TheVariants.{Skip};
 ghost use Rattle.mrp_config.specs.Config.{has_node};
 ghost use Rattle.quorums.specs.Groups.{Has};
 ghost use Rattle.plain_model.specs.Tuples.{instances, is_at_or_after, is_tuple_of, next_place, past, place_of, tuple_at};
+ghost use Rattle.plain_model.specs.Lines as plain;
 ghost use Rattle.checkpoint.specs.Checks.{is_after};
 ghost use Rattle.protocol.specs.Lines.{Line};
 ghost use Rattle.faithful.specs.Scanners.{Reaches, before_attempt, begun, book, paired, told, touches};
@@ -40,6 +41,11 @@ pub fn lines_only_grow()
     ensures joined { (before xs ys : List Line) → scanners.past before (xs ++ ys) ≡ scanners.past (scanners.past before xs) ys }
 {}
 
+/// The book of lines that stand with the latest first is the book of the plain model over these lines in order.
+pub fn one_book()
+    ensures { (lines : List Line) (ring : RingId) (inst : ℕ) → book (scanners.past [] lines) ring inst ≡ plain.book lines ring inst }
+{}
+
 /// Two groups of nodes that together are more than all share one; and of nodes that answered once at most, no more are counted
 /// than pass a test that all of them pass.
 pub fn groups_share()
@@ -49,16 +55,14 @@ pub fn groups_share()
         → count_by (λ (answer : NodeId × List (RingId × ℕ)). has_node nodes answer.0.0) answers ≤ count_by (λ (n : NodeId). test n.0) nodes }
 {}
 
-/// A valid tuple that is moved past its next place: it is valid, at or after, and not the same; what is below it is what was below
-/// it and that place; and the tuple of the next place is the tuple itself.
+/// A valid tuple that is moved past its next place is at or after what it was, and not the same. All below it is known where all
+/// below it was and that place is; and it is reached by skips where it was and that place is Skip.
 pub fn tuples_move()
-    ensures valid { (m : ℕ → ℕ) (rings : List RingId) (k : List (RingId × ℕ)) → is_tuple_of m rings k ≡ true → is_tuple_of m rings (past m k) ≡ true }
     ensures reaches { (m : ℕ → ℕ) (rings : List RingId) (k : List (RingId × ℕ)) → is_tuple_of m rings k ≡ true → Reaches (instances (past m k)) (instances k) }
     ensures later { (m : ℕ → ℕ) (k : List (RingId × ℕ)) → 0 < length k → Reaches (instances k) (instances (past m k)) → ⊥ }
     ensures known { (m : ℕ → ℕ) (lines : List Line) (k : List (RingId × ℕ)) → AllKnown lines k → IsKnown lines (next_place m k).0 (next_place m k).1 → AllKnown lines (past m k) }
     ensures skips { (m : ℕ → ℕ) (rings : List RingId) (lines : List Line) (from k : List (RingId × ℕ)) → BySkips m rings lines from k
         → book lines (next_place m k).0 (next_place m k).1 ≡ Some Skip → BySkips m rings lines from (past m k) }
-    ensures next { (m : ℕ → ℕ) (rings : List RingId) (k : List (RingId × ℕ)) → ((r : ℕ) → 0 < m r) → is_tuple_of m rings k ≡ true → 0 < length k → tuple_at m rings (place_of (next_place m k)) ≡ k }
 {}
 
 /// The order of tuples as lines print them is that of the valid tuples: at or after, after, and the same.

@@ -1,11 +1,17 @@
 -- Learn lines that agree with those before them have one value.
-use Rattle.std.proofs.Common.{◌≡◌, ℕ, ◌⊎◌, inl, inr, List, [], ◌∷◌, ◌++◌, sym, ◌∙◌, ap}
+use Rattle.std.proofs.Common.{◌≡◌, ℕ, ◌≤◌, ◌<◌, ◌⊎◌, inl, inr, List, [], ◌∷◌, ◌++◌, sym, ◌∙◌, ap}
 use Rattle.mrp_types.specs.declared.id.NodeId.{NodeId}
 use Rattle.mrp_types.specs.declared.id.RingId.{RingId}
 use Rattle.mrp_types.specs.declared.value.Value.{Value}
 use Rattle.quorums.specs.Groups.{Has}
 use Rattle.protocol.specs.Lines.{Line, Learn}
-use Rattle.line_runs.specs.Laws.{HaveOneValue, AgreeInTurn}
+use Rattle.line_runs.specs.Laws.{HaveOneValue}
+
+-- each learn line has the value of each earlier learn line of the ring that covers an instance of it
+abbrev pub AgreeInTurn : List Line → Type 0
+AgreeInTurn lines =
+    (before after : List Line) (n : NodeId) (ring : RingId) (lo hi : ℕ) (value : Value) → lines ≡ before ++ Learn n ring lo hi value ∷ after
+    → (m : NodeId) (low high : ℕ) (earlier : Value) → Has before (Learn m ring low high earlier) → (inst : ℕ) → lo ≤ inst → inst < hi → low ≤ inst → inst < high → earlier ≡ value
 
 -- the first stands before the second
 record InTurn (lines : List Line) (l k : Line) : Type 0 where

@@ -7,3 +7,4 @@ pub mod Agreeing
 pub mod Laws
 pub mod Since
 pub mod Holding
+pub mod Telling

@@ -163,7 +163,7 @@ module _ (c : Config) (fit : IsFit c) (w : World) (ties : WorldLines c w) where
       let l = opened_left c fit (past [] w.lines) id journal checks (chosen after durable pending).state.epoch may.epoch kept covered in
       let v : World = opens_as c id journal checks (Down durable pending) w in
       subst (λ (ls : List Line). TiedTo c ls v) (sym (r.1.printed) ∙ sym (ap (λ (n : ℕ). past (line.Up id n ∷ past [] w.lines) did.lines) may.epoch) ∙ sym (past_more [] w.lines (line.Up id journal.state.epoch ∷ did.lines)))
-      (stepped_world c (past [] w.lines) w v id.0 (up ∷ []) r.0 did refl refl ((λ other ne. differ id.0 other ne), tt) ties (rings_in (parts_of c id journal.state c.rings)) (placed_fresh c [] id journal.state c.rings) l r.1)
+      (stepped_world c (past [] w.lines) w v id.0 (up ∷ []) r.0 did refl refl ((λ other ne. differ id.0 other ne), tt) ties (rings_in (parts_of c id journal.state c.rings)) (placed_fresh c [] id journal.state may.node c.rings (λ ring has. has)) l r.1)
 
   fails_kept : (id : NodeId) (after : Bool) (left : Possible) (cause : Cause) (host : Host) → w.hosts id.0 ≡ host → MayLeaveAt after left host → WorldLines c (fails_as id after left cause host w)
   fails_kept id after left cause (Up view) e may = ties

@@ -1,6 +1,6 @@
 -- The words in which the laws of every run are said. A run's lines stand in the order in which they were printed; "the lines
 -- before" a line are turned round by `latest_first`, as the definitions of what is read of lines want them.
-use Rattle.std.specs.Prelude.{◌≡◌, ℕ, ◌<◌, ◌≤◌, ◌⊎◌, true, List, Option, Some, None, ◌++◌, ◌∷◌, length, Bool, count_by}
+use Rattle.std.specs.Prelude.{◌≡◌, ℕ, ◌<◌, ◌≤◌, ◌⊎◌, true, List, [], ◌∷◌, ◌++◌, Option, Some, None, length, Bool, count_by}
 use Rattle.mrp_types.specs.declared.id.NodeId.{NodeId}
 use Rattle.mrp_types.specs.declared.id.RingId.{RingId}
 use Rattle.mrp_types.specs.declared.id.Party.TheVariants.{Node}
@@ -9,10 +9,10 @@ use Rattle.mrp_config.specs.Config.{Config, has_node, has_ring}
 use Rattle.mrp_config.specs.Valid.{IsValid}
 use Rattle.mrp_config.specs.declared.tables.PartitionTable.{PartitionTable}
 use Rattle.frames.specs.declared.body.Body.{Body}
-use Rattle.frames.specs.declared.body.Body.TheVariants.{Promise, Trimmed, TrimTo}
+use Rattle.frames.specs.declared.body.Body.TheVariants.{Promise, Trimmed, TrimTo, HaveCheckpoint, AskPart, Part as PartFrame, Gone, Safe}
 use Rattle.frames.specs.declared.sent.Sent.{Sent}
 use Rattle.quorums.specs.Groups.{Has}
-use Rattle.plain_model.specs.Tuples.{round_sizes, is_tuple_of}
+use Rattle.plain_model.specs.Tuples.{round_sizes, is_tuple_of, instances}
 use Rattle.protocol.specs.Lines.{Line, Begin, Learn, Restore, Trim}
 use Rattle.protocol.specs.Opening.{partition_of}
 use Rattle.protocol.specs.Recovery.{tuple_of_newest}
@@ -22,18 +22,13 @@ use Rattle.bare_world.specs.Runs.{run, MayRun}
 use Rattle.faithful.specs.Scanners.{before_begin, told, Reaches, entry_of}
 use Rattle.faithful.specs.Rules.{AllKnown}
 use Rattle.recovery_lines.specs.Ties.{ReachesCovered, newest_of}
+use Rattle.line_runs.specs.Invariant.{latest_first}
 
 -- one value of all learn lines of a ring: two of them that cover an instance have the same
 abbrev pub HaveOneValue : List Line → Type 0
 HaveOneValue lines =
     (m n : NodeId) (ring : RingId) (lo hi lo' hi' inst : ℕ) (value value' : Value) → Has lines (Learn m ring lo hi value) → Has lines (Learn n ring lo' hi' value')
     → lo ≤ inst → inst < hi → lo' ≤ inst → inst < hi' → value ≡ value'
-
--- each learn line has the value of each earlier learn line of the ring that covers an instance of it
-abbrev pub AgreeInTurn : List Line → Type 0
-AgreeInTurn lines =
-    (before after : List Line) (n : NodeId) (ring : RingId) (lo hi : ℕ) (value : Value) → lines ≡ before ++ Learn n ring lo hi value ∷ after
-    → (m : NodeId) (low high : ℕ) (earlier : Value) → Has before (Learn m ring low high earlier) → (inst : ℕ) → lo ≤ inst → inst < hi → low ≤ inst → inst < high → earlier ≡ value
 
 -- a run of a valid deployment, from the world in which no node has opened yet
 pub record IsRun (c : Config) (hs : List Happening) : Type 0 where
@@ -71,6 +66,23 @@ pub record KeepsTold (c : Config) (lines : List Line) (n : ℕ) (p : PartitionTa
   pub valid : is_tuple_of (round_sizes c) p.rings (tuple_of_newest p s.newest) ≡ true
   pub known : AllKnown lines (tuple_of_newest p s.newest)
   pub reaches : (earlier : List ℕ) → Has (told n lines) earlier → Reaches (newest_of p s.newest) earlier
+
+-- the checkpoints that a frame names or carries, each with the node that told it
+abbrev pub checkpoints_of : NodeId → NodeId → Body → List (NodeId × List (RingId × ℕ))
+checkpoints_of from to (HaveCheckpoint epoch attempt tuple) = (from, tuple) ∷ []
+checkpoints_of from to (AskPart epoch attempt tuple offset) = (to, tuple) ∷ []
+checkpoints_of from to (PartFrame epoch attempt tuple offset total bytes) = (from, tuple) ∷ []
+checkpoints_of from to (Gone epoch attempt asked newer) = (from, asked) ∷ (from, newer) ∷ []
+checkpoints_of from to other = []
+
+-- Of a replica's possible state: its newest tuple, or the zeros without one, reaches every tuple that the node told by a begin or
+-- saved line, every checkpoint of its own that a frame names or carries, and every entry that it told in a Safe frame.
+pub record ReachesTold (c : Config) (hs : List Happening) (x : NodeId) (p : PartitionTable) (s : Possible) : Type 0 where
+  pub by_lines : (earlier : List ℕ) → Has (told x.0 (latest_first (lines_of c hs))) earlier → Reaches (newest_of p s.newest) earlier
+  pub by_frames : (sent : Sent) (from to : NodeId) (body : Body) (tuple : List (RingId × ℕ)) → Has (run c hs nothing).frames sent → NodeSent sent from to body → Has (checkpoints_of from to body) (x, tuple)
+      → Reaches (newest_of p s.newest) (instances tuple)
+  pub by_answers : (sent : Sent) (to : NodeId) (ring : RingId) (round inst : ℕ) → Has (run c hs nothing).frames sent → NodeSent sent x to (Safe ring round inst)
+      → inst ≤ entry_of p.rings ring (newest_of p s.newest)
 
 -- A recovery starts at or past every trim, of every ring of its partition, whose line stands before the begin line of its
 -- attempt, and past all that is covered by then, whether a line tells of it or not: `earlier` are the lines before that line.

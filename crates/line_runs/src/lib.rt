@@ -21,15 +21,14 @@ ghost use Rattle.plain_model.specs.Tuples.{round_sizes, is_tuple_of, instances};
 ghost use Rattle.protocol.specs.Lines.{Line, Begin, Chose, Deliver, Refuse, Restore, Saved, Trim};
 ghost use Rattle.protocol.specs.Node.{Ready, Service, Standing, View};
 ghost use Rattle.protocol.specs.Opening.{partition_of};
-ghost use Rattle.protocol.specs.Rings.{subscribers_of};
 ghost use Rattle.vote_state.specs.State.{trim_at};
 ghost use Rattle.bare_world.specs.Worlds.{Happening, Possible, Up, nothing};
 ghost use Rattle.bare_world.specs.Runs.{run};
-ghost use Rattle.faithful.specs.Rules.{AllHaveTold, AllKnown, Begins, Chooses, Delivers, Refuses, Restores, Saves};
+ghost use Rattle.faithful.specs.Rules.{AllKnown, Begins, Chooses, Delivers, Refuses, Restores, Saves, Trims};
 ghost use Rattle.faithful.specs.Scanners.{Reaches, entry_of, some_reaches, told};
-ghost use Rattle.recovery_lines.specs.Ties.{IsAnswer, IsCovered, IsFit, IsSafe, newest_of};
+ghost use Rattle.recovery_lines.specs.Ties.{IsAnswer, IsCovered, IsFit, TellsSafe, TellsTuple, newest_of};
 ghost use Rattle.line_runs.specs.Invariant.{latest_first, node};
-ghost use Rattle.line_runs.specs.Laws.{HaveOneValue, IsHeld, IsPossible, IsRun, KeepsTold, NodeSent, RestoresSince, StartsPast, host_of, lines_of, trim_told};
+ghost use Rattle.line_runs.specs.Laws.{HaveOneValue, IsHeld, IsPossible, IsRun, KeepsTold, NodeSent, RestoresSince, StartsPast, host_of, lines_of, trim_told, ReachesTold, checkpoints_of};
 
 /// Rule F2. A node delivers only while it is ready, the place that it delivers holds a batch, and from the place where it
 /// stood only skips lie before it: so a replica goes through the one order of its rings without a gap, and never back. A save
@@ -66,11 +65,11 @@ pub fn recoveries_start_past_trims()
         → has_ring p.rings ring.0 ≡ true → trim ≤ entry_of p.rings ring printed }
 {}
 
-/// Rule F7. Where a trim line is printed some partition subscribes to the ring, and in each that does a trim quorum of
-/// replicas have told an entry of the ring that reaches the trim.
+/// Rule F7. A trim line names a node and a ring of the deployment. Where it is printed some partition subscribes to the ring, and
+/// in each that does a trim quorum of replicas have told an entry of the ring that reaches the trim.
 pub fn trim_lines()
     ensures { (c : Config) (hs : List Happening) → IsRun c hs → (before after : List Line) (x : NodeId) (ring : RingId) (inst : ℕ)
-        → lines_of c hs ≡ before ++ Trim x ring inst ∷ after → AllHaveTold (latest_first before) ring inst (subscribers_of c.partitions ring) }
+        → lines_of c hs ≡ before ++ Trim x ring inst ∷ after → Trims c (latest_first before) x ring inst }
 {}
 
 /// Rule F8. An attempt begins in the epoch of the node's last up line, with a number that none of its attempts had, and with a
@@ -102,26 +101,32 @@ pub fn trims_are_covered()
 {}
 
 /// The safe rule Save, but for the bytes. In each state that a replica's disk may stand for the newest tuple is a valid one, all
-/// below it is in the book, and it reaches every tuple that the node told. Below each tuple that some line or frame tells, too,
-/// every place is in the book.
+/// below it is in the book, and it reaches every tuple that the node told. Below each tuple that a begin or saved line tells every
+/// place is in the book. A checkpoint that a frame from node to node names or carries was told by its node, is a valid tuple of
+/// that node's partition, and every place below it is in the book. What a replica told, in a line or in a frame, is reached by the
+/// newest checkpoint of each of its possible states.
 pub fn checkpoints_are_kept()
     ensures disks { (c : Config) (hs : List Happening) → IsRun c hs → (n : ℕ) (s : Possible) (p : PartitionTable) → IsPossible (host_of c hs n) s → partition_of c.partitions (node n) ≡ Some p
         → KeepsTold c (latest_first (lines_of c hs)) n p s }
     ensures told { (c : Config) (hs : List Happening) → IsRun c hs → (x : NodeId) (p : PartitionTable) (k : List (RingId × ℕ)) → partition_of c.partitions x ≡ Some p
         → is_tuple_of (round_sizes c) p.rings k ≡ true → Has (told x.0 (latest_first (lines_of c hs))) (instances k) → AllKnown (latest_first (lines_of c hs)) k }
+    ensures frames { (c : Config) (hs : List Happening) → IsRun c hs → (sent : Sent) (from to : NodeId) (body : Body) (x : NodeId) (tuple : List (RingId × ℕ)) → Has (run c hs nothing).frames sent
+        → NodeSent sent from to body → Has (checkpoints_of from to body) (x, tuple) → TellsTuple c (latest_first (lines_of c hs)) x tuple × AllKnown (latest_first (lines_of c hs)) tuple }
+    ensures reached { (c : Config) (hs : List Happening) → IsRun c hs → (n : ℕ) (s : Possible) (p : PartitionTable) → IsPossible (host_of c hs n) s → partition_of c.partitions (node n) ≡ Some p
+        → ReachesTold c hs (node n) p s }
 {}
 
 /// The safe rule Restore, but for the bytes. An answer that names an attempt was told by its sender, after the attempt began: it
 /// reaches all that the sender had told by then. A frame that says that a checkpoint is gone names a newer one that its sender
-/// told, and an answer to a round of trimming names what its sender told. A ready replica stands at a valid tuple below which
-/// every place is in the book, at or past its newest checkpoint.
+/// told. An answer to a round of trimming comes from a replica of a subscribed partition, and names 0 or an entry that it told.
+/// A ready replica stands at a valid tuple below which every place is in the book, at or past its newest checkpoint.
 pub fn recoveries_are_safe()
     ensures answers { (c : Config) (hs : List Happening) → IsRun c hs → (sent : Sent) (from to : NodeId) (epoch attempt : ℕ) (tuple : List (RingId × ℕ)) → Has (run c hs nothing).frames sent
         → NodeSent sent from to (HaveCheckpoint epoch attempt tuple) → IsAnswer (latest_first (lines_of c hs)) to.0 epoch attempt from.0 (instances tuple) }
     ensures newer { (c : Config) (hs : List Happening) → IsRun c hs → (sent : Sent) (from to : NodeId) (epoch attempt : ℕ) (asked newer : List (RingId × ℕ)) → Has (run c hs nothing).frames sent
         → NodeSent sent from to (Gone epoch attempt asked newer) → Has (told from.0 (latest_first (lines_of c hs))) (instances newer) }
     ensures safe { (c : Config) (hs : List Happening) → IsRun c hs → (sent : Sent) (from to : NodeId) (ring : RingId) (round inst : ℕ) → Has (run c hs nothing).frames sent
-        → NodeSent sent from to (Safe ring round inst) → IsSafe c (latest_first (lines_of c hs)) ring (from, inst) }
+        → NodeSent sent from to (Safe ring round inst) → TellsSafe c (latest_first (lines_of c hs)) ring (from, inst) }
     ensures valid { (c : Config) (hs : List Happening) → IsRun c hs → (n : ℕ) (view : View) (service : Service) (standing : Standing) → host_of c hs n ≡ Up view → view.service ≡ Some service
         → service.stage ≡ Ready standing → is_tuple_of (round_sizes c) service.partition.rings standing.tuple ≡ true }
     ensures known { (c : Config) (hs : List Happening) → IsRun c hs → (n : ℕ) (view : View) (service : Service) (standing : Standing) → host_of c hs n ≡ Up view → view.service ≡ Some service

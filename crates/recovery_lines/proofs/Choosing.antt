@@ -25,7 +25,7 @@ use Rattle.faithful.proofs.Ordering.{Reaches-refl, Reaches-trans, rings_fit, not
 use Rattle.faithful.proofs.Quorum.{partition_there}
 use Rattle.recovery_lines.proofs.More.{SameOwn, SameAttempt, AllKnown-more, OwnLines-same, AttemptLines-same, told_same}
 use Rattle.recovery_lines.proofs.Trimmed.{trims_reached, covered_reached}
-use Rattle.recovery_lines.proofs.Printing.{differ, said_sends, prints_done, sends_done, stage_done, lowers_done}
+use Rattle.recovery_lines.proofs.Printing.{differ, said_sends, prints_done, sends_done, stage_done, lowers_done, other_tells}
 use Rattle.faithful.proofs.Between.{BySkips-refl}
 
 -- ---- the best of some answers
@@ -298,7 +298,8 @@ module _ (c : Config) (fit : IsFit c) (before : List Line) (merged : (a : Acting
         lines = l ∷ lines;
         ties = record {
           done = sends_done c before (l ∷ lines) (with_stage service stage (prints (l ∷ []) a)) gathering.done
-              (asks_part a.view attempt choice) (said_sends c (l ∷ lines) a.view.id best.0 (AskPart (epoch_of a.view) attempt.number best.1 0) tt);
+              (asks_part a.view attempt choice) (said_sends c (l ∷ lines) a.view.id best.0 (AskPart (epoch_of a.view) attempt.number best.1 0)
+              (other_tells c fit (l ∷ lines) a.view.id best.0 service.partition best.1 o.replica replica valid choice_now.told));
           replica = gathering.replica;
         };
       }

@@ -27,11 +27,11 @@ use Rattle.protocol.specs.Recovery.{epoch_of, own_tuple, tuple_of_newest, is_of,
 use Rattle.protocol.specs.Step.{tells_safe}
 use Rattle.faithful.specs.Scanners.{Mark, Begun, Restored, touches, life, before_attempt, lines_before_this, or_else, told, tuples_told, entry_of, Reaches, some_reaches}
 use Rattle.faithful.specs.Rules.{AllKnown}
-use Rattle.recovery_lines.specs.Ties.{IsFit, IsAnswer, IsSafe, IsSaid, BodySaid, OwnLines, AnswerLines, ChoiceLines, ChosenLines, StageLines, ActLines, AfterLines, newest_of}
+use Rattle.recovery_lines.specs.Ties.{IsFit, IsAnswer, TellsSafe, TellsTuple, IsSaid, BodySaid, OwnLines, AnswerLines, ChoiceLines, ChosenLines, StageLines, ActLines, AfterLines, newest_of}
 use Rattle.faithful.proofs.Growing.{same_number, all_more}
 use Rattle.faithful.proofs.Ordering.{Reaches-trans, rings_fit, after_reaches}
-use Rattle.faithful.proofs.Quorum.{all_has, appended, mapped, different_more, is_some_reaches, partition_there}
-use Rattle.recovery_lines.proofs.Printing.{said_sends, said_others, sends_done, stage_done}
+use Rattle.faithful.proofs.Quorum.{all_has, appended, mapped, different_more, is_some_reaches, partition_there, subscribed}
+use Rattle.recovery_lines.proofs.Printing.{other_tells, said_sends, said_others, sends_done, stage_done}
 use Rattle.recovery_lines.proofs.Choosing.{restored, choosing}
 use Rattle.recovery_lines.proofs.Beginning.{quorum_chooses, beginning}
 use Rattle.recovery_lines.proofs.Merging.{merged_all}
@@ -133,16 +133,20 @@ module _ (c : Config) (fit : IsFit c) (before : List Line) (a : Acting) (lines :
 
   module _ (service : Service) (own : OwnLines c lines a.view.id (epoch_of a.view) a.view.checks.newest service.partition service.attempts)
       (mine : Has (told a.view.id.0 lines) (newest_of service.partition a.view.checks.newest)) where
+    -- the own newest tuple is told
+    own_tells : TellsTuple c lines a.view.id (tuple_of_newest service.partition a.view.checks.newest)
+    own_tells = record { partition = service.partition; replica = own.replica; valid = own.kept.valid; told = mine }
+
     -- ---- what is asked of this node
 
     pub checkpoint_told : (from : NodeId) (epoch number : ℕ) → ((b : List Line) × (before_attempt from.0 epoch number lines ≡ Some b)) → AfterLines c before (tells_checkpoint service from epoch number a)
     checkpoint_told from epoch number asked =
         sent_lines (sends_to a.view.id from (HaveCheckpoint epoch number (own_tuple a.view service)))
         (said_sends c lines a.view.id from (HaveCheckpoint epoch number (own_tuple a.view service))
-        (record { before = asked.0; begins = asked.1; tells = mine; reaches = λ earlier h. own.kept.reaches earlier (told_before from.0 epoch number a.view.id.0 lines asked.0 earlier asked.1 h) }))
+        (record { before = asked.0; begins = asked.1; tells = mine; reaches = λ earlier h. own.kept.reaches earlier (told_before from.0 epoch number a.view.id.0 lines asked.0 earlier asked.1 h) }, own_tells))
 
-    pub part_told : (from : NodeId) (epoch number : ℕ) (tuple : List (RingId × ℕ)) (offset : ℕ) → AfterLines c before (tells_part c service from epoch number tuple offset a)
-    part_told from epoch number tuple offset =
+    pub part_told : (from : NodeId) (epoch number : ℕ) (tuple : List (RingId × ℕ)) (offset : ℕ) → TellsTuple c lines a.view.id tuple → AfterLines c before (tells_part c service from epoch number tuple offset a)
+    part_told from epoch number tuple offset asked =
         by_test (AfterLines c before) (is_tuple_of (round_sizes c) service.partition.rings tuple) _ a
         (λ e. sent_lines (flat_map (sends_to a.view.id from) (answer_part epoch number tuple offset (part_of a.view.checks tuple offset)))
         (by_newest a.view.checks.newest refl)) as_it_was
@@ -159,12 +163,12 @@ module _ (c : Config) (fit : IsFit c) (before : List Line) (a : Acting) (lines :
         by_part : (total : ℕ) (state : List ℕ) → Said (part_at total offset state)
         by_part total state =
             by_test Said (nat_lt offset total) (PartOf total (take (part_size (offset, total)) (drop offset state))) Unknown
-            (λ e. by_body (PartFrame epoch number tuple offset total (take (part_size (offset, total)) (drop offset state))) tt) tt
+            (λ e. by_body (PartFrame epoch number tuple offset total (take (part_size (offset, total)) (drop offset state))) asked) tt
 
         by_newest : (o : Option Checkpoint) → a.view.checks.newest ≡ o → Said (part_in o tuple offset)
         by_newest None e = tt
         by_newest (Some newest) e = by_test Said (is_after tuple newest.tuple) (Gone newest.tuple) (if is_same_tuple tuple newest.tuple then part_at (length newest.state) offset newest.state else Unknown)
-            (λ t. by_other (GoneFrame epoch number tuple newest.tuple) (λ ne. (ne, subst (λ (o : Option Checkpoint). Has (told a.view.id.0 lines) (newest_of service.partition o)) e mine)))
+            (λ t. by_other (GoneFrame epoch number tuple newest.tuple) (λ ne. (ne, (asked, subst (λ (o : Option Checkpoint). TellsTuple c lines a.view.id (tuple_of_newest service.partition o)) e own_tells))))
             (by_test Said (is_same_tuple tuple newest.tuple) (part_at (length newest.state) offset newest.state) Unknown (λ t. by_part (length newest.state) newest.state) tt)
 
     pub safe_told : (from : NodeId) (ring : RingId) (round : ℕ) → a.view.service ≡ Some service → AfterLines c before (tells_safe from ring round (safe_of a.view ring a.view.service) a)
@@ -172,16 +176,17 @@ module _ (c : Config) (fit : IsFit c) (before : List Line) (a : Acting) (lines :
         subst (λ (s : Option Service). AfterLines c before (tells_safe from ring round (safe_of a.view ring s) a)) (sym there)
         (by_test (λ (o : Option ℕ). AfterLines c before (tells_safe from ring round o a)) (has_ring service.partition.rings ring.0) _ None
         (λ e. sent_lines (sends_to a.view.id from (Safe ring round (safe_in ring a.view.checks.newest)))
-        (said_sends c lines a.view.id from (Safe ring round (safe_in ring a.view.checks.newest)) safe)) as_it_was)
+        (said_sends c lines a.view.id from (Safe ring round (safe_in ring a.view.checks.newest)) (safe e))) as_it_was)
       where
-        some_same : (u v : PartitionTable) → Some u ≡ Some v → u ≡ v
-        some_same u v t = cc
-
-        safe : IsSafe c lines ring (a.view.id, safe_in ring a.view.checks.newest)
-        safe p has replica =
-            let same : service.partition ≡ p = some_same service.partition p (sym own.replica ∙ fit.alone p a.view.id (in_partitions ring c.partitions p has) replica) in
-            subst (λ (q : PartitionTable). (safe_in ring a.view.checks.newest ≡ 0) ⊎ (some_reaches q.rings ring (safe_in ring a.view.checks.newest) (told a.view.id.0 lines) ≡ true)) same
-            (own_safe c lines a.view.id.0 ring service.partition a.view.checks.newest mine own.kept.valid)
+        safe : has_ring service.partition.rings ring.0 ≡ true → TellsSafe c lines ring (a.view.id, safe_in ring a.view.checks.newest)
+        safe e =
+            let p = partition_there c.partitions a.view.id service.partition own.replica in
+            record {
+              partition = service.partition;
+              subscribes = subscribed c.partitions ring service.partition p.there e;
+              replica = p.replica;
+              told = own_safe c lines a.view.id.0 ring service.partition a.view.checks.newest mine own.kept.valid;
+            }
 
     -- ---- an attempt
 
@@ -287,7 +292,8 @@ module _ (c : Config) (fit : IsFit c) (before : List Line) (a : Acting) (lines :
                 ties = record {
                   done = sends_done c before lines (with_stage service (Recovering (record attempt { choice = Some more })) a)
                       (stage_done c before lines a ties.done service (Recovering (record attempt { choice = Some more }))) (asks_part a.view attempt more)
-                      (said_sends c lines a.view.id choice.from (AskPart (epoch_of a.view) attempt.number choice.tuple (length (choice.bytes ++ bytes))) tt);
+                      (said_sends c lines a.view.id choice.from (AskPart (epoch_of a.view) attempt.number choice.tuple (length (choice.bytes ++ bytes)))
+                      (other_tells c fit lines a.view.id choice.from service.partition choice.tuple own.replica ch.replica ch.valid ch.told));
                   replica = record { own = own; told = mine; stage = (stage.0, moved) };
                 };
               }))

@@ -30,7 +30,8 @@ use Rattle.faithful.proofs.Quorum.{appended, mapped, partition_there}
 use Rattle.recovery_lines.proofs.More.{KnownLines-more, SameOwn, AllKnown-more, OwnLines-same, told_same, IsSaid-more, PartLines-more, ReplicaLines-quiet}
 use Rattle.recovery_lines.proofs.Printing.{differ, prints_done, stage_done}
 use Rattle.faithful.proofs.Between.{BySkips-refl}
-use Rattle.faithful.proofs.Moving.{past_tuple, past_reaches, past_later, past_known, past_skips, tuple_at_next, next_there, same_size}
+use Rattle.faithful.proofs.Moving.{past_tuple, past_reaches, past_later, past_known, past_skips, same_size}
+use Rattle.tuple_laws.proofs.NextPlaces.{at-next}
 
 -- ---- what a learner holds is the book's
 
@@ -173,7 +174,7 @@ module _ (c : Config) (fit : IsFit c) (before : List Line) where
       size = same_size rings k (rings_fit m rings k r.valid) (fit.some service.partition (partition_there c.partitions a.view.id service.partition o.replica).there)
 
       moved : position m rings a.view.id.0 (l ∷ lines) ≡ past m k
-      moved = rw (same_number a.view.id.0) (ap (λ (q : List (RingId × ℕ)). moved_past place q) (tuple_at_next m rings k fit.rounds r.valid (next_there m k size)))
+      moved = rw (same_number a.view.id.0) (ap (λ (q : List (RingId × ℕ)). moved_past place q) (at-next m rings k fit.rounds r.valid))
 
       same : SameOwn a.view.id.0 l lines
       same = record { tells = rw (same_number a.view.id.0) refl; begins = rw (same_number a.view.id.0) refl; up = rw (same_number a.view.id.0) refl }

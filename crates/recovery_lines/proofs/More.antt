@@ -9,7 +9,7 @@ use Rattle.mrp_types.specs.declared.value.Value.TheVariants.{Skip}
 use Rattle.mrp_config.specs.Config.{Config}
 use Rattle.mrp_config.specs.declared.tables.PartitionTable.{PartitionTable}
 use Rattle.frames.specs.declared.body.Body.{Body}
-use Rattle.frames.specs.declared.body.Body.TheVariants.{AskCheckpoint, HaveCheckpoint, Gone, Safe, Promise, Trimmed, TrimTo}
+use Rattle.frames.specs.declared.body.Body.TheVariants.{AskCheckpoint, HaveCheckpoint, AskPart, Part as PartFrame, Gone, Safe, Promise, Trimmed, TrimTo}
 use Rattle.frames.specs.declared.sent.Sent.{Sent}
 use Rattle.quorums.specs.Groups.{Has}
 use Rattle.checkpoint.specs.Checks.{Checkpoint}
@@ -20,7 +20,7 @@ use Rattle.protocol.specs.Node.{RingPart, Service, Stage, Recovering, Ready, Cho
 use Rattle.plain_model.specs.Tuples.{round_sizes, instances}
 use Rattle.faithful.specs.Scanners.{touches, life, up_epoch, attempting, before_begin, told, begun, mark_of, epoch_told, attempt_told, open_told, choice_told, lines_before, lines_before_this, tuples_told, attempts_told, some_reaches}
 use Rattle.faithful.specs.Rules.{AllKnown, BySkips, AllHaveTold, HaveTold}
-use Rattle.recovery_lines.specs.Ties.{TellsKnown, KnownLines, IsAnswer, IsSafe, BodySaid, PartySaid, IsSaid, RoundLines, CurrentLines, PartLines, KeptLines, OwnLines, AnswerLines, AttemptLines, ChosenLines, StageLines, ServiceLines, ReplicaLines, newest_of, IsCovered, PartTold}
+use Rattle.recovery_lines.specs.Ties.{TellsKnown, KnownLines, IsAnswer, IsSafe, TellsSafe, TellsTuple, BodySaid, PartySaid, IsSaid, RoundLines, CurrentLines, PartLines, KeptLines, OwnLines, AnswerLines, AttemptLines, ChosenLines, StageLines, ServiceLines, ReplicaLines, newest_of, IsCovered, PartTold}
 use Rattle.faithful.proofs.Growing.{has_split, last_quiet, all_quiet, all_more, first_more, book_more, position_quiet}
 use Rattle.faithful.proofs.Quorum.{mapped, some_reaches_is, is_some_reaches, count_le}
 
@@ -55,6 +55,20 @@ module _ (c : Config) (l : Line) (lines : List Line) where
     | inr e ↦ inr (some_more p.rings ring answer.1 answer.0.0 e)
   ]
 
+  TellsSafe-more : (ring : RingId) (answer : NodeId × ℕ) → TellsSafe c lines ring answer → TellsSafe c (l ∷ lines) ring answer
+  TellsSafe-more ring answer s = record {
+    partition = s.partition;
+    subscribes = s.subscribes;
+    replica = s.replica;
+    told = elim s.told [
+      | inl e ↦ inl e
+      | inr e ↦ inr (some_more s.partition.rings ring answer.1 answer.0.0 e)
+    ];
+  }
+
+  TellsTuple-more : (x : NodeId) (tuple : List (RingId × ℕ)) → TellsTuple c lines x tuple → TellsTuple c (l ∷ lines) x tuple
+  TellsTuple-more x tuple t = record { partition = t.partition; replica = t.replica; valid = t.valid; told = all_more tuples_told x.0 l lines _ t.told }
+
   HaveTold-more : (ring : RingId) (inst : ℕ) (p : PartitionTable) → HaveTold lines ring inst p → HaveTold (l ∷ lines) ring inst p
   HaveTold-more ring inst p h =
       le_trans h (count_le (λ (n : NodeId). some_reaches p.rings ring inst (told n.0 lines)) (λ (n : NodeId). some_reaches p.rings ring inst (told n.0 (l ∷ lines))) (λ n e. some_more p.rings ring inst n.0 e) p.replicas)
@@ -69,9 +83,11 @@ module _ (c : Config) (l : Line) (lines : List Line) where
 
   pub BodySaid-more : (from to : NodeId) (body : Body) → BodySaid c lines from to body → BodySaid c (l ∷ lines) from to body
   BodySaid-more from to (AskCheckpoint e n) s = (s.0, first_more (lines_before_this e n) from.0 l lines s.0 s.1)
-  BodySaid-more from to (HaveCheckpoint e n tuple) s = IsAnswer-more to.0 e n from.0 _ s
-  BodySaid-more from to (Gone e n asked newer) s = (s.0, all_more tuples_told from.0 l lines _ s.1)
-  BodySaid-more from to (Safe ring round inst) s = IsSafe-more ring (from, inst) s
+  BodySaid-more from to (HaveCheckpoint e n tuple) s = (IsAnswer-more to.0 e n from.0 _ s.0, TellsTuple-more from tuple s.1)
+  BodySaid-more from to (AskPart e n tuple offset) s = TellsTuple-more to tuple s
+  BodySaid-more from to (PartFrame e n tuple offset total bytes) s = TellsTuple-more from tuple s
+  BodySaid-more from to (Gone e n asked newer) s = (s.0, (TellsTuple-more from asked s.1.0, TellsTuple-more from newer s.1.1))
+  BodySaid-more from to (Safe ring round inst) s = TellsSafe-more ring (from, inst) s
   BodySaid-more from to (Promise ring ballot lo hi trim votes) s = IsCovered-more ring trim s
   BodySaid-more from to (Trimmed ring trim) s = IsCovered-more ring trim s
   BodySaid-more from to (TrimTo ring trim) s = IsCovered-more ring trim s

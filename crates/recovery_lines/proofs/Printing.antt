@@ -5,7 +5,7 @@ use Rattle.std.specs.List.{AllByRecursion, flat_map}
 use Rattle.std.proofs.lemmas.Bool.Decides.{nat_tests}
 use Rattle.mrp_types.specs.declared.id.NodeId.{NodeId}
 use Rattle.mrp_types.specs.declared.id.RingId.{RingId}
-use Rattle.mrp_config.specs.Config.{Config}
+use Rattle.mrp_config.specs.Config.{Config, has_node}
 use Rattle.mrp_config.specs.declared.tables.PartitionTable.{PartitionTable}
 use Rattle.quorums.specs.Groups.{Has}
 use Rattle.plain_model.specs.Tuples.{round_sizes, is_tuple_of, instances}
@@ -16,12 +16,12 @@ use Rattle.protocol.specs.Lines.{Line}
 use Rattle.protocol.specs.Rings.{sends_to, sent_by, is_beyond}
 use Rattle.protocol.specs.Node.{Acting, RingPart, Service, Stage, with_stage, prints, sends_all}
 use Rattle.protocol.specs.Recovery.{with_lowered, lowers}
-use Rattle.faithful.specs.Scanners.{paired}
-use Rattle.faithful.specs.Rules.{AllKnown}
-use Rattle.recovery_lines.specs.Ties.{IsRightLine, TellsKnown, BodySaid, IsSaid, PartLines, DoneLines, IsOf}
+use Rattle.faithful.specs.Scanners.{paired, told}
+use Rattle.faithful.specs.Rules.{AllKnown, IsFaithfulLine}
+use Rattle.recovery_lines.specs.Ties.{IsRightLine, TellsKnown, BodySaid, IsSaid, PartLines, DoneLines, IsOf, IsFit, TellsTuple}
 use Rattle.faithful.proofs.Growing.{past_more, same_number}
 use Rattle.faithful.proofs.Ordering.{rings_fit, paired_same}
-use Rattle.faithful.proofs.Quorum.{appended, mapped}
+use Rattle.faithful.proofs.Quorum.{appended, mapped, partition_there}
 use Rattle.recovery_lines.proofs.More.{IsSaid-more, PartLines-more, KnownLines-more}
 
 pub differ : (a b : ℕ) → (a ≡ b → ⊥) → (a == b) ≡ false
@@ -41,6 +41,12 @@ said_others c lines own to b s = go (to.0 == own.0 || is_beyond b) refl
 
 pub said_sends : (c : Config) (lines : List Line) (own to : NodeId) (b : Body) → BodySaid c lines own to b → AllByRecursion (IsSaid c lines) (sends_to own to b)
 said_sends c lines own to b s = said_others c lines own to b (λ ne. s)
+
+-- a replica of the same partition told it
+pub other_tells : (c : Config) → IsFit c → (lines : List Line) (x from : NodeId) (p : PartitionTable) (tuple : List (RingId × ℕ)) → partition_of c.partitions x ≡ Some p → has_node p.replicas from.0 ≡ true
+    → is_tuple_of (round_sizes c) p.rings tuple ≡ true → Has (told from.0 lines) (instances tuple) → TellsTuple c lines from tuple
+other_tells c fit lines x from p tuple there replica valid tells =
+    record { partition = p; replica = fit.alone p from (partition_there c.partitions x p there).there replica; valid = valid; told = tells }
 
 pub all_flat : {S T : Type 0} (P : T → Type 0) (f : S → List T) → ((x : S) → AllByRecursion P (f x)) → (xs : List S) → AllByRecursion P (flat_map f xs)
 all_flat P f each [] = tt

@@ -16,7 +16,7 @@ use Rattle.faithful.specs.Scanners.{unchosen}
 use Rattle.faithful.specs.Rules.{Refuses}
 use Rattle.recovery_lines.specs.Ties.{IsFit, IsSaid, OwnLines, ChosenLines, StageLines, ServiceLines, ReplicaLines, ActLines, AfterLines}
 use Rattle.recovery_lines.proofs.More.{OwnLines-same, quiet_own, ReplicaLines-quiet}
-use Rattle.recovery_lines.proofs.Printing.{said_sends, all_flat, prints_done, sends_done, stage_done}
+use Rattle.recovery_lines.proofs.Printing.{other_tells, said_sends, all_flat, prints_done, sends_done, stage_done}
 use Rattle.recovery_lines.proofs.Beginning.{beginning}
 use Rattle.recovery_lines.proofs.Merging.{merged_all}
 
@@ -54,14 +54,15 @@ module _ (c : Config) (fit : IsFit c) (before : List Line) (a : Acting) (lines :
           now : Attempt
           now = record attempt { ticks = attempt.ticks + 1 }
 
-          asked : (choice : Option Choice) → AllByRecursion (IsSaid c lines) (asks_missing service now choice a.view)
-          asked None = all_flat (IsSaid c lines) (asks_checkpoint a.view attempt.number)
+          asked : (choice : Option Choice) → ChosenLines c lines a.view.id (epoch_of a.view) service.partition attempt.number attempt.answers choice → AllByRecursion (IsSaid c lines) (asks_missing service now choice a.view)
+          asked None ch = all_flat (IsSaid c lines) (asks_checkpoint a.view attempt.number)
               (λ node. said_sends c lines a.view.id node (AskCheckpoint (epoch_of a.view) attempt.number) (st.0.earlier, st.0.first))
               (filter (λ node. not (has_answered node attempt.answers)) (others_of a.view.id service.partition))
-          asked (Some choice) = said_sends c lines a.view.id choice.from (AskPart (epoch_of a.view) attempt.number choice.tuple (length choice.bytes)) tt
+          asked (Some choice) ch = said_sends c lines a.view.id choice.from (AskPart (epoch_of a.view) attempt.number choice.tuple (length choice.bytes))
+              (other_tells c fit lines a.view.id choice.from service.partition choice.tuple s.own.replica ch.replica ch.valid ch.told)
 
           asked_if : (b : Bool) → AllByRecursion (IsSaid c lines) (if b then asks_missing service now attempt.choice a.view else [])
-          asked_if true = asked attempt.choice
+          asked_if true = asked attempt.choice st.1
           asked_if false = tt
 
           few_open : (choice : Option Choice) → ChosenLines c lines a.view.id (epoch_of a.view) service.partition attempt.number attempt.answers choice

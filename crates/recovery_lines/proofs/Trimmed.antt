@@ -77,7 +77,7 @@ module _ (c : Config) (fit : IsFit c) (lines : List Line) (x : NodeId) (epoch : 
           some_same u v e = cc
 
   line_reached : (now : List Line) → ((r : ℕ) (t : List ℕ) → Has (told r now) t → Has (told r ties.earlier) t) → (l : Line) → IsFaithfulLine c now l → IsReached p.rings best l
-  line_reached now sub (Trim node ring inst) f = λ has. trim_reached now sub ring inst f has
+  line_reached now sub (Trim node ring inst) f = λ has. trim_reached now sub ring inst f.told has
   line_reached now sub other f = tt
 
   trims_from : (now : List Line) → ((r : ℕ) (t : List ℕ) → Has (told r now) t → Has (told r ties.earlier) t) → AreFaithful c now → AllByRecursion (IsReached p.rings best) now

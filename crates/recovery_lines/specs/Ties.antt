@@ -9,7 +9,7 @@ use Rattle.mrp_types.specs.declared.value.Value.{Value}
 use Rattle.mrp_config.specs.Config.{Config, has_node, has_ring}
 use Rattle.mrp_config.specs.declared.tables.PartitionTable.{PartitionTable}
 use Rattle.frames.specs.declared.body.Body.{Body}
-use Rattle.frames.specs.declared.body.Body.TheVariants.{Promise, Trimmed, TrimTo, AskCheckpoint, HaveCheckpoint, Gone, Safe}
+use Rattle.frames.specs.declared.body.Body.TheVariants.{Promise, Trimmed, TrimTo, AskCheckpoint, HaveCheckpoint, AskPart, Part as PartFrame, Gone, Safe}
 use Rattle.frames.specs.declared.sent.Sent.{Sent}
 use Rattle.range_map.specs.Entries.{IsIncreasingFrom}
 use Rattle.vote_state.specs.State.{State, trim_at}
@@ -25,7 +25,7 @@ use Rattle.protocol.specs.Recovery.{tuple_of_newest}
 use Rattle.protocol.specs.Node.{RingPart, Stage, Recovering, Ready, Choice, Service, Acting, View, Stepped}
 use Rattle.faithful.specs.Scanners.{Begun, Restored, past, touches, tuples_told, life, up_epoch, attempting, unchosen, chosen, before_begin, before_attempt, told, begun, entry_of, Reaches, some_reaches, position, book}
 use Rattle.faithful.specs.Answers.{AreDifferent}
-use Rattle.faithful.specs.Rules.{AllKnown, BySkips, Chooses, IsFaithfulLine, AreFaithful, AllHaveTold}
+use Rattle.faithful.specs.Rules.{AllKnown, BySkips, Chooses, IsFaithfulLine, AreFaithful, AllHaveTold, HasNode, HasRing}
 
 -- ---- the deployment
 
@@ -75,17 +75,33 @@ pub record IsAnswer (lines : List Line) (x e n r : ℕ) (printed : List ℕ) : T
   pub tells : Has (told r lines) printed
   pub reaches : (earlier : List ℕ) → Has (told r before) earlier → Reaches printed earlier
 
--- a node of a subscribed partition told an entry of the ring of at least this, or it is 0
+-- where a node is a replica of a subscribed partition, it told an entry of the ring of at least this, or it is 0
 abbrev pub IsSafe : Config → List Line → RingId → NodeId × ℕ → Type 0
 IsSafe c lines ring answer =
     (p : PartitionTable) → Has (subscribers_of c.partitions ring) p → has_node p.replicas answer.0.0 ≡ true
     → (answer.1 ≡ 0) ⊎ (some_reaches p.rings ring answer.1 (told answer.0.0 lines) ≡ true)
 
+-- and it is one of such a partition
+pub record TellsSafe (c : Config) (lines : List Line) (ring : RingId) (answer : NodeId × ℕ) : Type 0 where
+  pub partition : PartitionTable
+  pub subscribes : Has (subscribers_of c.partitions ring) partition
+  pub replica : has_node partition.replicas answer.0.0 ≡ true
+  pub told : (answer.1 ≡ 0) ⊎ (some_reaches partition.rings ring answer.1 (told answer.0.0 lines) ≡ true)
+
+-- a node told a valid tuple of its partition
+pub record TellsTuple (c : Config) (lines : List Line) (x : NodeId) (tuple : List (RingId × ℕ)) : Type 0 where
+  pub partition : PartitionTable
+  pub replica : partition_of c.partitions x ≡ Some partition
+  pub valid : is_tuple_of (round_sizes c) partition.rings tuple ≡ true
+  pub told : Has (told x.0 lines) (instances tuple)
+
 abbrev pub BodySaid : Config → List Line → NodeId → NodeId → Body → Type 0
 BodySaid c lines from to (AskCheckpoint e n) = (before : List Line) × (before_attempt from.0 e n lines ≡ Some before)
-BodySaid c lines from to (HaveCheckpoint e n tuple) = IsAnswer lines to.0 e n from.0 (instances tuple)
-BodySaid c lines from to (Gone e n asked newer) = (from.0 ≡ to.0 → ⊥) × Has (told from.0 lines) (instances newer)
-BodySaid c lines from to (Safe ring round inst) = IsSafe c lines ring (from, inst)
+BodySaid c lines from to (HaveCheckpoint e n tuple) = IsAnswer lines to.0 e n from.0 (instances tuple) × TellsTuple c lines from tuple
+BodySaid c lines from to (AskPart e n tuple offset) = TellsTuple c lines to tuple
+BodySaid c lines from to (PartFrame e n tuple offset total bytes) = TellsTuple c lines from tuple
+BodySaid c lines from to (Gone e n asked newer) = (from.0 ≡ to.0 → ⊥) × (TellsTuple c lines from asked × TellsTuple c lines from newer)
+BodySaid c lines from to (Safe ring round inst) = TellsSafe c lines ring (from, inst)
 BodySaid c lines from to (Promise ring ballot lo hi trim votes) = IsCovered c lines ring trim
 BodySaid c lines from to (Trimmed ring trim) = IsCovered c lines ring trim
 BodySaid c lines from to (TrimTo ring trim) = IsCovered c lines ring trim
@@ -120,6 +136,8 @@ pub record PartTold (c : Config) (lines : List Line) (p : RingPart) : Type 0 whe
 
 -- a ring as the deployment has it for a node
 pub record IsPlaced (c : Config) (x : NodeId) (ring : Ring) : Type 0 where
+  pub fits_node : HasNode c ring.own
+  pub fits_ring : HasRing c ring.id
   pub own : ring.own ≡ x
   pub subscribers : ring.subscribers ≡ subscribers_of c.partitions ring.id
 

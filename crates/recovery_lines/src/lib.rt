@@ -24,7 +24,7 @@ ghost use Rattle.protocol.specs.Step.{behind};
 ghost use Rattle.protocol.specs.Tick.{saves_first};
 ghost use Rattle.faithful.specs.Scanners.{Reaches, before_attempt, told};
 ghost use Rattle.faithful.specs.Rules.{IsReached};
-ghost use Rattle.recovery_lines.specs.Ties.{ActLines, AfterLines, AttemptLines, IsAnswer, IsFit, KeptLines, OwnLines, ReachesCovered, ServiceLines, StageLines, StepLines, ViewLines, newest_of};
+ghost use Rattle.recovery_lines.specs.Ties.{ActLines, AfterLines, AttemptLines, IsAnswer, IsFit, KeptLines, OwnLines, ReachesCovered, ServiceLines, StageLines, StepLines, ViewLines, newest_of, TellsTuple};
 
 /// A tuple at or past all answers of an attempt that a recovery quorum has answered reaches each trim whose line stands before
 /// the attempt's begin line, and all that the lines before it cover: a trim quorum told an entry that reaches it by then, and one
@@ -49,14 +49,15 @@ pub fn words_of_recovery()
 {}
 
 /// A frame of recovery at a replica: what it is asked, an answer to its attempt, a part of the chosen checkpoint, and word that
-/// this one is gone. What such a frame says of its sender has to be so of the lines.
+/// this one is gone. What such a frame says of its sender, or of this replica where it asks for a part of what that told, has to
+/// be so of the lines.
 pub fn frames_of_recovery()
     ensures asked { (c : Config) → IsFit c → (before : List Line) (a : Acting) (lines : List Line) → ActLines c before lines a → (service : Service)
         → ServiceLines c lines a.view.id (epoch_of a.view) a.view.checks.newest service → (from : NodeId) (epoch number : ℕ)
         → ((earlier : List Line) × (before_attempt from.0 epoch number lines ≡ Some earlier)) → AfterLines c before (tells_checkpoint service from epoch number a) }
     ensures asked_part { (c : Config) → IsFit c → (before : List Line) (a : Acting) (lines : List Line) → ActLines c before lines a → (service : Service)
         → ServiceLines c lines a.view.id (epoch_of a.view) a.view.checks.newest service → (from : NodeId) (epoch number : ℕ) (tuple : List (RingId × ℕ)) (offset : ℕ)
-        → AfterLines c before (tells_part c service from epoch number tuple offset a) }
+        → TellsTuple c lines a.view.id tuple → AfterLines c before (tells_part c service from epoch number tuple offset a) }
     ensures answered { (c : Config) → IsFit c → (before : List Line) (a : Acting) (lines : List Line) → ActLines c before lines a → (service : Service) (attempt : Attempt)
         → ServiceLines c lines a.view.id (epoch_of a.view) a.view.checks.newest service
         → StageLines c lines a.view.id (epoch_of a.view) a.view.checks.newest service.partition (Recovering attempt) → (from : NodeId) (epoch number : ℕ) (tuple : List (RingId × ℕ))

@@ -2,7 +2,7 @@
 use Rattle.protocol.specs.Rings.{is_acceptor}
 use Rattle.protocol.specs.Learner.{chosen, decided}
 use Rattle.protocol.specs.Coordinator.{submits, refused, promised}
-use Rattle.step_lines.proofs.Rounds.{answers_stays}
+use Rattle.step_lines.proofs.Rounds.{told_safe, own_placed, answers_stays}
 use Rattle.command_codec.specs.Grammar.{command_of}
 use Rattle.protocol.specs.Trimming.{answers, trimmed}
 use Rattle.step_lines.proofs.Handlers.{prepares_stays, accepts_stays, chosen_stays, decided_stays, fetches_stays, promised_stays, refused_stays, submits_stays, trimmed_stays}
@@ -31,7 +31,7 @@ use Rattle.frames.specs.declared.body.Body.TheVariants.{Gone, Reply, Part as Par
 use Rattle.protocol.specs.Lines.{Line}
 use Rattle.protocol.specs.Node.{Acting, RingPart, Service, Stage, Recovering, Ready, Attempt, part_at}
 use Rattle.protocol.specs.Step.{behind, at_acceptor, is_for, takes_trim_at, takes_trim, takes_submit, tells_safe, at_service, at_attempt, recovering, takes_body}
-use Rattle.recovery_lines.specs.Ties.{IsFit, IsPlaced, IsCovered, IsSafe, BodySaid, ServiceLines, StageLines, ReplicaLines, ActLines, AfterLines, rings_in}
+use Rattle.recovery_lines.specs.Ties.{IsFit, IsPlaced, IsCovered, IsSafe, TellsSafe, BodySaid, ServiceLines, StageLines, ReplicaLines, ActLines, AfterLines, rings_in}
 use Rattle.step_lines.specs.Dids.{Onward, Goes}
 
 module _ (c : Config) (fit : IsFit c) (before : List Line) (a : Acting) (placed : AllByRecursion (IsPlaced c a.view.id) (rings_in a.view.parts)) where
@@ -68,10 +68,10 @@ module _ (c : Config) (fit : IsFit c) (before : List Line) (a : Acting) (placed 
           (goes_so c before b (behind c ring trim b) (behind_onward c before ring trim b) (λ lines ties. behind_lines c fit before b lines ties ring trim)))
           (Goes-refl c before a)
 
-  safe_goes : (from : NodeId) (ring : RingId) (round inst : ℕ) → IsSafe c before ring (from, inst) → Goes c before a (takes_body c from (Safe ring round inst) a)
+  safe_goes : (from : NodeId) (ring : RingId) (round inst : ℕ) → TellsSafe c before ring (from, inst) → Goes c before a (takes_body c from (Safe ring round inst) a)
   safe_goes from ring round inst safe = acceptor_goes c fit before ring a (λ r part view. answers r view.link part from round inst)
-      (λ p e t. answers_stays c before p.ring (part_placed (IsPlaced c a.view.id) a.view.parts ring p placed e).subscribers a.view.link p.part from round inst t.round
-      (subst (λ (r : RingId). IsSafe c before r (from, inst)) (sym (part_ring a.view.parts ring p e)) safe))
+      (λ p e t. answers_stays c before p.ring (own_placed c a.view.id p.ring (part_placed (IsPlaced c a.view.id) a.view.parts ring p placed e)) a.view.link p.part from round inst t.round
+      (subst (λ (r : RingId). IsSafe c before r (from, inst)) (sym (part_ring a.view.parts ring p e)) (told_safe c fit before ring (from, inst) safe)))
 
   pub submit_goes : (ring : RingId) (hops : ℕ) (client : ClientId) (seq : ℕ) (command : List ℕ) → Goes c before a (takes_submit c ring hops client seq command a)
   submit_goes ring hops client seq command =
@@ -142,12 +142,12 @@ module _ (c : Config) (fit : IsFit c) (before : List Line) (a : Acting) (placed 
   body_goes from (AskCheckpoint epoch attempt) s = by_service (λ q. tells_checkpoint q from epoch attempt) (λ q. onward_sends c before _ a)
       (λ q lines ties e r. checkpoint_told c fit before a lines ties q r.own r.told from epoch attempt (still lines ties from a.view.id (AskCheckpoint epoch attempt) s))
   body_goes from (HaveCheckpoint epoch attempt tuple) s = by_attempt (λ q now. answered_by c q now from epoch attempt tuple) (λ q now. answered_onward c before q now from epoch attempt tuple a)
-      (λ q now lines ties r st. answer_taken c fit before a lines ties q r.own r.told now st from epoch attempt tuple (still lines ties from a.view.id (HaveCheckpoint epoch attempt tuple) s))
+      (λ q now lines ties r st. answer_taken c fit before a lines ties q r.own r.told now st from epoch attempt tuple (still lines ties from a.view.id (HaveCheckpoint epoch attempt tuple) s).0)
   body_goes from (AskPart epoch attempt tuple offset) s = by_service (λ q. tells_part c q from epoch attempt tuple offset) (λ q. tells_part_onward c before q from epoch attempt tuple offset a)
-      (λ q lines ties e r. part_told c fit before a lines ties q r.own r.told from epoch attempt tuple offset)
+      (λ q lines ties e r. part_told c fit before a lines ties q r.own r.told from epoch attempt tuple offset (still lines ties from a.view.id (AskPart epoch attempt tuple offset) s))
   body_goes from (PartFrame epoch attempt tuple offset total bytes) s = by_attempt (λ q now. takes_part c q now from epoch attempt tuple offset total bytes) (λ q now. part_onward c before q now from epoch attempt tuple offset total bytes a)
       (λ q now lines ties r st. part_taken c fit before a lines ties q r.own r.told now st from epoch attempt tuple offset total bytes)
   body_goes from (Gone epoch attempt asked newer) s = by_attempt (λ q now. takes_gone c q now from epoch attempt asked newer) (λ q now. gone_onward c before q now from epoch attempt asked newer a)
-      (λ q now lines ties r st. gone_taken c fit before a lines ties q r.own r.told now st from epoch attempt asked newer s.0 (still lines ties from a.view.id (Gone epoch attempt asked newer) s).1)
+      (λ q now lines ties r st. gone_taken c fit before a lines ties q r.own r.told now st from epoch attempt asked newer s.0 (still lines ties from a.view.id (Gone epoch attempt asked newer) s).1.1.told)
   body_goes from (Reply client seq partition reply) s = Goes-refl c before a
   body_goes from Hello s = Goes-refl c before a

@@ -50,7 +50,7 @@ recorded_epoch j (x ∷ cs) = refl
 
 module _ (c : Config) (l : Line) (lines : List Line) where
   IsPlain-more : (other : Line) → IsPlain c lines other → IsPlain c (l ∷ lines) other
-  IsPlain-more (Trim node ring inst) h = AllHaveTold-more c l lines ring inst (subscribers_of c.partitions ring) h
+  IsPlain-more (Trim node ring inst) h = record { fits_node = h.fits_node; fits_ring = h.fits_ring; told = AllHaveTold-more c l lines ring inst (subscribers_of c.partitions ring) h.told }
   IsPlain-more other h = h
 
 pub plain_quiet : (c : Config) (lines : List Line) (l : Line) → IsPlain c lines l → (x : ℕ) → touches x l ≡ false

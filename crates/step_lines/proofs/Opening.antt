@@ -2,12 +2,12 @@
 use Rattle.step_lines.proofs.Ending.{finished_left}
 use Rattle.step_lines.proofs.Recovery.{begins_onward}
 use Rattle.step_lines.proofs.Onward.{Onward-refl}
-use Rattle.std.proofs.Common.{◌≡◌, ℕ, ◌+◌, Bool, true, false, List, [], ◌∷◌, Option, Some, None, refl, sym, subst}
-use Rattle.std.specs.Prelude.{if◌then◌else◌}
+use Rattle.std.proofs.Common.{◌≡◌, ℕ, ◌+◌, inl, inr, Bool, true, false, List, [], ◌∷◌, Option, Some, None, refl, sym, ◌∙◌, subst, true≢false}
+use Rattle.std.specs.Prelude.{◌==◌, if◌then◌else◌}
 use Rattle.std.specs.List.{AllByRecursion}
 use Rattle.mrp_types.specs.declared.id.NodeId.{NodeId}
 use Rattle.mrp_types.specs.declared.value.Value.{Value}
-use Rattle.mrp_config.specs.Config.{Config}
+use Rattle.mrp_config.specs.Config.{Config, ring_at}
 use Rattle.mrp_config.specs.declared.tables.RingTable.{RingTable}
 use Rattle.mrp_config.specs.declared.tables.PartitionTable.{PartitionTable}
 use Rattle.vote_state.specs.State.{State}
@@ -19,12 +19,26 @@ use Rattle.protocol.specs.Opening.{partition_of, part_of_ring, parts_of, view_of
 use Rattle.protocol.specs.Node.{Acting, Service, Recovering, begun_with, finished}
 use Rattle.protocol.specs.Recovery.{begins}
 use Rattle.recovery_lines.specs.Ties.{IsFit, IsPlaced, AreRight, AreCovered, PartTold, PartLines, KnownLines, KeptLines, OwnLines, DoneLines, AfterLines, StepLines, rings_in}
+use Rattle.quorums.specs.Groups.{Has}
+use Rattle.faithful.specs.Rules.{HasNode, AreFaithful}
+use Rattle.faithful.proofs.Growing.{same_number}
 use Rattle.recovery_lines.proofs.More.{KnownLines-more}
 use Rattle.recovery_lines.proofs.Beginning.{next_begins}
 use Rattle.recovery_lines.proofs.Merging.{merged_all}
 use Rattle.recovery_lines.proofs.Saving.{own_opened}
 use Rattle.step_lines.specs.Dids.{AllTold, Onward, KeptFor, LeftTold}
 use Rattle.step_lines.proofs.Composing.{finished_lines}
+
+-- a ring that stands in a list is found there
+ring_there : (rings : List RingTable) (ring : RingTable) → Has rings ring → (table : RingTable) × (ring_at rings ring.id.0 ≡ Some table)
+ring_there [] ring has = absurd has
+ring_there (r ∷ rings) ring has = go (r.id.0 == ring.id.0) refl has (λ h. ring_there rings ring h)
+  where
+    go : (b : Bool) → (r.id.0 == ring.id.0) ≡ b → Has (r ∷ rings) ring → (Has rings ring → (table : RingTable) × (ring_at rings ring.id.0 ≡ Some table))
+        → (table : RingTable) × ((if b then Some r else ring_at rings ring.id.0) ≡ Some table)
+    go true e h rest = (r, refl)
+    go false e (inl same) rest = absurd (true≢false (sym (subst (λ (q : RingTable). (q.id.0 == ring.id.0) ≡ true) same (same_number ring.id.0)) ∙ e))
+    go false e (inr h) rest = rest h
 
 module _ (c : Config) (lines : List Line) (id : NodeId) (state : State) where
   parts_fresh : (rings : List RingTable) → AllByRecursion (PartLines lines) (parts_of c id state rings)
@@ -48,13 +62,13 @@ module _ (c : Config) (lines : List Line) (id : NodeId) (state : State) where
       go true rest = (record { round = tt; trim = covered ring.id }, rest)
       go false rest = rest
 
-  pub placed_fresh : (rings : List RingTable) → AllByRecursion (IsPlaced c id) (rings_in (parts_of c id state rings))
-  placed_fresh [] = tt
-  placed_fresh (ring ∷ rings) = go (is_member (ring_of c id ring)) (placed_fresh rings)
+  pub placed_fresh : HasNode c id → (rings : List RingTable) → ((ring : RingTable) → Has rings ring → Has c.rings ring) → AllByRecursion (IsPlaced c id) (rings_in (parts_of c id state rings))
+  placed_fresh fits [] sub = tt
+  placed_fresh fits (ring ∷ rings) sub = go (is_member (ring_of c id ring)) (placed_fresh fits rings (λ r has. sub r (inr has)))
     where
       go : (b : Bool) → AllByRecursion (IsPlaced c id) (rings_in (parts_of c id state rings))
           → AllByRecursion (IsPlaced c id) (rings_in (if b then part_of_ring state (ring_of c id ring) ∷ parts_of c id state rings else parts_of c id state rings))
-      go true rest = (record { own = refl; subscribers = refl }, rest)
+      go true rest = (record { fits_node = fits; fits_ring = ring_there c.rings ring (sub ring (inl refl)); own = refl; subscribers = refl }, rest)
       go false rest = rest
 
 module _ (c : Config) (fit : IsFit c) (lines : List Line) (id : NodeId) (journal : Journal) (checks : Checks) (epoch : ℕ) (same : journal.state.epoch ≡ epoch + 1)

@@ -1,11 +1,12 @@
 -- A round of trimming that ends: what it makes a trim line was told by each subscribed partition's trim quorum.
 use Rattle.protocol.specs.Ballots.{role_leads}
 use Rattle.step_lines.specs.Dids.{Stays}
-use Rattle.std.proofs.Common.{◌≡◌, ℕ, suc, ◌<◌, ◌≤◌, inl, inr, Bool, true, false, List, [], ◌∷◌, ◌++◌, Option, Some, None, refl, sym, subst, arith, true≢false, le_refl, le_trans}
+use Rattle.std.proofs.Common.{◌≡◌, ℕ, suc, ◌<◌, ◌≤◌, ◌⊎◌, inl, inr, Bool, true, false, List, [], ◌∷◌, ◌++◌, Option, Some, None, refl, sym, ◌∙◌, subst, arith, true≢false, le_refl, le_trans}
 use Rattle.std.specs.Prelude.{◌==◌, nat_lt, nat_le, ◌&&◌, not, if◌then◌else◌, min}
 use Rattle.std.specs.List.{AllByRecursion}
 use Rattle.std.proofs.lemmas.Bool.Decides.{nat_tests}
 use Rattle.mrp_types.specs.declared.id.NodeId.{NodeId}
+use Rattle.mrp_types.specs.declared.id.RingId.{RingId}
 use Rattle.mrp_config.specs.Config.{Config, has_node}
 use Rattle.mrp_config.specs.declared.tables.PartitionTable.{PartitionTable}
 use Rattle.quorums.specs.Groups.{Has}
@@ -20,10 +21,23 @@ use Rattle.protocol.specs.Acceptor.{trims_to}
 use Rattle.protocol.specs.Trimming.{has_answered, answered_of, have_quorums, least_of, least_above_last, least_where, is_answered, least, with_answer, in_round, trims_all, trims_above, ends_by, goes_on_round, with_own_answer, next_round, with_asked, asks, answers_in, answers, asks_round, with_current}
 use Rattle.faithful.specs.Scanners.{told, some_reaches}
 use Rattle.faithful.specs.Rules.{HaveTold, AllHaveTold}
-use Rattle.recovery_lines.specs.Ties.{IsSafe, RoundLines, CurrentLines}
+use Rattle.recovery_lines.specs.Ties.{IsFit, IsPlaced, IsSafe, TellsSafe, RoundLines, CurrentLines}
 use Rattle.faithful.proofs.Quorum.{appended, different_count, different_more, some_reaches_is, is_some_reaches}
-use Rattle.recovery_lines.proofs.Hearing.{by_test}
+use Rattle.recovery_lines.proofs.Hearing.{by_test, in_partitions}
 use Rattle.step_lines.proofs.Words.{ring_sends_each, Stays-refl, Stays-trans, stays_frames, stays_line, stays_rounds, stays_trims, proposes_stays}
+
+-- a node is a replica of one partition
+pub told_safe : (c : Config) → IsFit c → (lines : List Line) (ring : RingId) (answer : NodeId × ℕ) → TellsSafe c lines ring answer → IsSafe c lines ring answer
+told_safe c fit lines ring answer s p has replica =
+    let same : s.partition ≡ p = some_same s.partition p
+    (sym (fit.alone s.partition answer.0 (in_partitions ring c.partitions s.partition s.subscribes) s.replica) ∙ fit.alone p answer.0 (in_partitions ring c.partitions p has) replica) in
+    subst (λ (q : PartitionTable). (answer.1 ≡ 0) ⊎ (some_reaches q.rings ring answer.1 (told answer.0.0 lines) ≡ true)) same s.told
+  where
+    some_same : (u v : PartitionTable) → Some u ≡ Some v → u ≡ v
+    some_same u v e = cc
+
+pub own_placed : (c : Config) (x : NodeId) (ring : Ring) → IsPlaced c x ring → IsPlaced c ring.own ring
+own_placed c x ring placed = subst (λ (n : NodeId). IsPlaced c n ring) (sym placed.own) placed
 
 module _ (c : Config) (lines : List Line) where
   least_low : (inst : ℕ) (answers : List (NodeId × ℕ)) → (least_of inst answers ≤ inst) × AllByRecursion (λ (answer : NodeId × ℕ). least_of inst answers ≤ answer.1) answers
@@ -38,7 +52,10 @@ module _ (c : Config) (lines : List Line) where
       low_right : (i j : ℕ) → min i j ≤ j
       low_right i j = omega arith
 
-  module _ (ring : Ring) (same : ring.subscribers ≡ subscribers_of c.partitions ring.id) where
+  module _ (ring : Ring) (placed : IsPlaced c ring.own ring) where
+    same : ring.subscribers ≡ subscribers_of c.partitions ring.id
+    same = placed.subscribers
+
     -- each of these partitions has told
     quorums_told : (inst : ℕ) (answers : List (NodeId × ℕ)) → 0 < inst → AllByRecursion (λ (answer : NodeId × ℕ). inst ≤ answer.1) answers → RoundLines c lines ring.id answers
         → (ps : List PartitionTable) → ((p : PartitionTable) → Has ps p → Has (subscribers_of c.partitions ring.id) p) → have_quorums ps answers ≡ true → AllByRecursion (HaveTold lines ring.id inst) ps
@@ -138,7 +155,7 @@ module _ (c : Config) (lines : List Line) where
             cut = trims_to ring inst lined
 
             all : Stays c lines ring.id now (trims_all ring inst now)
-            all = Stays-trans c lines ring.id now lined (trims_all ring inst now) (stays_line c lines ring.id now (Trim ring.own ring.id inst) told)
+            all = Stays-trans c lines ring.id now lined (trims_all ring inst now) (stays_line c lines ring.id now (Trim ring.own ring.id inst) (record { fits_node = placed.fits_node; fits_ring = placed.fits_ring; told = told }))
                 (Stays-trans c lines ring.id lined cut (trims_all ring inst now) (stays_trims c lines ring inst lined (inr told))
                 (stays_frames c lines ring.id cut (sends_each ring (other_acceptors ring) (TrimTo ring.id inst))
                 (λ t. ring_sends_each c lines ring (other_acceptors ring) (TrimTo ring.id inst) (λ node. inr told))))

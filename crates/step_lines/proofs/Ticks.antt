@@ -14,7 +14,7 @@ use Rattle.protocol.specs.Rings.{is_acceptor, sends, sends_to}
 use Rattle.recovery_lines.proofs.Hearing.{in_partitions}
 use Rattle.protocol.specs.Recovery.{epoch_of, recovery_ticks, safe_in, safe_of, tuple_of_newest}
 use Rattle.protocol.specs.Learning.{does}
-use Rattle.step_lines.proofs.Rounds.{asks_stays}
+use Rattle.step_lines.proofs.Rounds.{own_placed, asks_stays}
 use Rattle.protocol.specs.Trimming.{asks_round}
 use Rattle.recovery_lines.proofs.Printing.{all_flat, said_sends}
 use Rattle.frames.specs.declared.sent.Sent.{Sent}
@@ -109,7 +109,7 @@ module _ (c : Config) (fit : IsFit c) (before : List Line) (a : Acting) (placed 
           (rule_goes_at ring resent (λ r part view. asks_round r view.link part (safe_of view ring view.service))
           (λ p e t.
           let at : IsPlaced c a.view.id p.ring = part_placed (IsPlaced c a.view.id) resent.view.parts ring p rings_there e in
-          asks_stays c before p.ring at.subscribers resent.view.link p.part (safe_of resent.view ring resent.view.service)
+          asks_stays c before p.ring (own_placed c a.view.id p.ring at) resent.view.link p.part (safe_of resent.view ring resent.view.service)
           (λ inst f. subst (λ (x : NodeId). IsSafe c before p.ring.id (x, inst)) (sym at.own)
           (subst (λ (r : RingId). IsSafe c before r (a.view.id, inst)) (sym (part_ring resent.view.parts ring p e)) (safe_here ring resent here inst f)))))
 

@@ -11,11 +11,10 @@ use Rattle.checkpoint.specs.Checks.{Checkpoint}
 use Rattle.vote_state.specs.State.{State, taken}
 use Rattle.protocol.specs.Lines.{Line, Learn, Trim, BallotLimit, InstanceLimit}
 use Rattle.protocol.specs.Parts.{Ring, Did}
-use Rattle.protocol.specs.Rings.{subscribers_of}
 use Rattle.protocol.specs.Opening.{partition_of}
 use Rattle.protocol.specs.Node.{Acting, Event, Ticks, Takes, Leads, Stepped}
 use Rattle.faithful.specs.Scanners.{past, book}
-use Rattle.faithful.specs.Rules.{AllHaveTold}
+use Rattle.faithful.specs.Rules.{Trims}
 use Rattle.recovery_lines.specs.Ties.{IsSaid, PartySaid, IsCovered, AreCovered, CurrentLines, PartTold, KeptLines, ActLines, AfterLines, rings_in}
 
 -- ---- each learn line agrees with the book before it
@@ -32,7 +31,7 @@ AllAgree (l ∷ before) = Agrees before l × AllAgree before
 
 -- a line that a rule of a ring may print: a trim that was told, a limit, or what is learned
 abbrev pub IsPlain : Config → List Line → Line → Type 0
-IsPlain c lines (Trim node ring inst) = AllHaveTold lines ring inst (subscribers_of c.partitions ring)
+IsPlain c lines (Trim node ring inst) = Trims c lines node ring inst
 IsPlain c lines (BallotLimit node ring) = Unit {0}
 IsPlain c lines (InstanceLimit node ring) = Unit {0}
 IsPlain c lines (Learn node ring lo hi value) = Unit {0}

@@ -3,10 +3,10 @@ use Rattle.line_runs.proofs.Laws.{body_said, ready_lines}
 use Rattle.line_runs.proofs.recoveries_are_safe.Goals as goal
 
 pub returns-clause-answers : goal.returns-clause-answers
-returns-clause-answers c = λ config hs r sent from to epoch attempt tuple has is. body_said config hs r sent from to (HaveCheckpoint epoch attempt tuple) has is
+returns-clause-answers c = λ config hs r sent from to epoch attempt tuple has is. (body_said config hs r sent from to (HaveCheckpoint epoch attempt tuple) has is).0
 
 pub returns-clause-newer : goal.returns-clause-newer
-returns-clause-newer c = λ config hs r sent from to epoch attempt asked newer has is. (body_said config hs r sent from to (Gone epoch attempt asked newer) has is).1
+returns-clause-newer c = λ config hs r sent from to epoch attempt asked newer has is. (body_said config hs r sent from to (Gone epoch attempt asked newer) has is).1.1.told
 
 pub returns-clause-safe : goal.returns-clause-safe
 returns-clause-safe c = λ config hs r sent from to ring round inst has is. body_said config hs r sent from to (Safe ring round inst) has is

@@ -5,7 +5,7 @@ pub returns-clause-asked : goal.returns-clause-asked
 returns-clause-asked c = λ config fit before a lines ties service s from epoch number asked. checkpoint_told config fit before a lines ties service s.own s.told from epoch number asked
 
 pub returns-clause-asked_part : goal.returns-clause-asked_part
-returns-clause-asked_part c = λ config fit before a lines ties service s from epoch number tuple offset. part_told config fit before a lines ties service s.own s.told from epoch number tuple offset
+returns-clause-asked_part c = λ config fit before a lines ties service s from epoch number tuple offset tells. part_told config fit before a lines ties service s.own s.told from epoch number tuple offset tells
 
 pub returns-clause-answered : goal.returns-clause-answered
 returns-clause-answered c = λ config fit before a lines ties service attempt s stage from epoch number tuple said. answer_taken config fit before a lines ties service s.own s.told attempt stage from epoch number tuple said
