@@ -1,11 +1,10 @@
 -- A client's text is read as it is spelled, and what is read is spelled so.
-use Rattle.std.proofs.Common.{arith, lit<, ◌≡◌, ◌≤◌, ◌<◌, ℕ, ◌+◌, ◌-◌, List, [], ◌∷◌, ◌++◌, length, Some, None, refl, sym, ap, ◌∙◌, subst, nat_lt, if◌then◌else◌, Bool, true, inl, inr, append-nil, length-append}
+use Rattle.std.proofs.Common.{arith, lit<, ◌≡◌, ◌≤◌, ℕ, ◌+◌, ◌-◌, List, [], ◌∷◌, ◌++◌, length, Some, None, refl, sym, ap, ◌∙◌, subst, nat_lt, if◌then◌else◌, Bool, true, inl, inr, append-nil, length-append}
 use Rattle.std.specs.Prelude.{Result, Ok, Err, IfOk, IsErrAnd}
-use Rattle.std.specs.List.{AllByRecursion}
 use Rattle.text_lines.specs.declared.fault.TextFault.{TextFault}
 use Rattle.text_lines.specs.declared.fault.TextFault.TheVariants as words
 use Rattle.text_lines.specs.Split.{Line, ended_line, all_ended, line_bytes, unlined, words_of, lines_of, first_line}
-use Rattle.text_lines.specs.Text.{joined, line_text}
+use Rattle.text_lines.specs.Text.{joined}
 use Rattle.text_lines.specs.Reading.{◌>>=◌}
 use Rattle.text_lines.specs.Words.{all_of}
 use Rattle.text_lines.proofs.Inverse.{bound, then_was, else_was}

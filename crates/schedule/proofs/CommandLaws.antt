@@ -1,6 +1,5 @@
 -- A command is read as it is spelled, and what is read is spelled so.
-use Rattle.std.proofs.Common.{arith, lit<, ◌≡◌, ◌<◌, ◌≤◌, ℕ, ◌^◌, ◌+◌, List, [], ◌∷◌, ◌++◌, length, refl, sym, ap, ◌∙◌, codes, Ok, Err, IsTrue, inl, inr, Bool, true, false, nat_le, nat_lt, ◌&&◌, ◌⊎◌, ◌==◌}
-use Rattle.std.specs.Prelude.{◌||◌}
+use Rattle.std.proofs.Common.{arith, lit<, ◌≡◌, ◌<◌, ◌≤◌, ℕ, ◌^◌, ◌+◌, List, [], ◌∷◌, ◌++◌, length, refl, codes, Ok, IsTrue, inl, inr, false, nat_le, nat_lt, ◌&&◌, ◌⊎◌, ◌==◌}
 use Rattle.std.specs.List.{AllByRecursion}
 use Rattle.std.specs.Fmt.{decimal}
 use Rattle.std.specs.Ordering.{nat_cmp, is_lt}
@@ -17,7 +16,7 @@ use Rattle.mrp_types.specs.declared.id.LogId.{LogId}
 use Rattle.mrp_types.proofs.TestLemmas.{both, below as is_less}
 use Rattle.command_codec.specs.declared.command.Command.{Command}
 use Rattle.command_codec.specs.declared.command.Command.TheVariants.{Append, Multi, ReadLog, TrimLog, Get, Scan, Update, Insert, Delete}
-use Rattle.command_codec.specs.Valid.{rises_from, IsCommand, IsRange, AreLogs as AreValidLogs}
+use Rattle.command_codec.specs.Valid.{rises_from, IsCommand}
 use Rattle.mrp_config.specs.Routing.{is_below}
 use Rattle.schedule.specs.Spelling.{command_words, logs_text, IsWithin, AreBytes, AreLogs, IsAsked}
 use Rattle.schedule.specs.Reading.{WordReader, within, any_number, log_word, logs_word, bytes_word, append_at, multi_at, read_at, trimlog_at, get_at, are_ends, scan_at, update_at, insert_at, delete_at, commands_on_keys, commands, command_at}

@@ -1,15 +1,12 @@
 -- An event is read as it is spelled, and what is read is spelled so.
-use Rattle.std.proofs.Common.{arith, lit<, ◌≡◌, ◌<◌, ℕ, ◌^◌, List, [], ◌∷◌, ◌++◌, refl, sym, ap, ◌∙◌, codes, Ok, Err}
-use Rattle.std.specs.Prelude.{Result}
+use Rattle.std.proofs.Common.{lit<, ◌≡◌, ◌<◌, ℕ, List, [], ◌∷◌, ◌++◌, refl, ap, codes, Ok}
 use Rattle.std.specs.List.{AllByRecursion}
 use Rattle.std.specs.Fmt.{decimal}
 use Rattle.hex.specs.Hex.{encode_lower}
 use Rattle.text_lines.specs.declared.fault.TextFault.{TextFault}
 use Rattle.text_lines.specs.declared.fault.TextFault.TheVariants.{Word, Range, Left}
-use Rattle.text_lines.specs.Split.{words_of}
-use Rattle.text_lines.specs.Text.{joined}
 use Rattle.text_lines.specs.Words.{both as both_readers, shown, tested}
-use Rattle.text_lines.proofs.Laws.{Lacks, words_of_joined}
+use Rattle.text_lines.proofs.Laws.{Lacks}
 use Rattle.text_lines.proofs.WordLaws.{Words, Took, Entry, AreEntries, alone, spell_both, one_words, two, tested_words, IsTested, IsBoth, viewed_was, given_was, shown_read, keyed_was, all_read, all_was, none_low, lacks_low}
 use Rattle.disk_model.specs.declared.area.Image.{Image}
 use Rattle.disk_model.specs.declared.area.Image.TheVariants.{Old, New, Fill}
@@ -17,8 +14,8 @@ use Rattle.mrp_config.specs.Config.{Config}
 use Rattle.schedule.specs.declared.event.ScheduleEvent.{ScheduleEvent}
 use Rattle.schedule.specs.declared.event.ScheduleEvent.TheVariants.{Ask, Flow, Lose, Deliver, List as Shown, TickAll, TickNode, TickClient, Lead, Crash, Restart, Fuse, Fail, FailRead, Show}
 use Rattle.schedule.specs.Fields.{is_client, is_node, can_lead}
-use Rattle.schedule.specs.Spelling.{event_words, command_words, image_words, IsWithin, IsClient, IsNode, IsAsked, IsImage, IsWorded}
-use Rattle.schedule.specs.Reading.{WordReader, within, any_number, client_word, node_word, byte_word, ask_at, flow_at, lose_at, deliver_at, list_at, ticks, tick_at, lead_at, crash_at, images, image_at, restart_at, calls_at, fuse_at, fail_at, failread_at, show_at, events_of_disks, events_of_nodes, kinds, event_at, event_in}
+use Rattle.schedule.specs.Spelling.{event_words, image_words, IsWithin, IsClient, IsNode, IsImage, IsWorded}
+use Rattle.schedule.specs.Reading.{WordReader, within, client_word, node_word, byte_word, ask_at, flow_at, lose_at, deliver_at, list_at, ticks, tick_at, lead_at, crash_at, images, image_at, restart_at, calls_at, fuse_at, fail_at, failread_at, show_at, events_of_disks, events_of_nodes, kinds, event_at, event_in}
 use Rattle.schedule.proofs.FieldLaws.{known_number, byte}
 use Rattle.schedule.proofs.CommandLaws.{numbers, any_numbers, command_law}
 

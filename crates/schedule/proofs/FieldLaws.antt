@@ -1,5 +1,5 @@
 -- Each kind of word is read as it is spelled, and what is read is spelled so.
-use Rattle.std.proofs.Common.{arith, lit<, zero, suc, ◌≡◌, ◌≤◌, ◌<◌, ℕ, ◌^◌, ◌+◌, List, [], ◌∷◌, ◌++◌, length, get_or, refl, sym, ap, ◌∙◌, subst, nat_lt, nat_le, ◌&&◌, if◌then◌else◌, Bool, true, false, Ok, Err, IsTrue, append_assoc}
+use Rattle.std.proofs.Common.{arith, lit<, zero, suc, ◌≡◌, ◌≤◌, ◌<◌, ℕ, ◌^◌, ◌+◌, List, [], ◌∷◌, ◌++◌, length, refl, sym, ap, ◌∙◌, subst, nat_lt, nat_le, ◌&&◌, if◌then◌else◌, Bool, true, Ok, Err, IsTrue, append_assoc}
 use Rattle.std.proofs.Math.Path.{ap₂}
 use Rattle.std.specs.Prelude.{Result, map}
 use Rattle.std.specs.List.{AllByRecursion}

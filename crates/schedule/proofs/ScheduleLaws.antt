@@ -1,5 +1,5 @@
 -- A schedule is read as it is spelled, and what is read is spelled so.
-use Rattle.std.proofs.Common.{arith, lit<, lit≤, ◌≡◌, ◌≤◌, ◌<◌, ℕ, ◌+◌, List, [], ◌∷◌, ◌++◌, length, refl, sym, ap, ◌∙◌, subst, nat_lt, nat_le, ◌&&◌, ◌≢◌, if◌then◌else◌, Bool, true, codes, inl, inr, length-append}
+use Rattle.std.proofs.Common.{arith, lit<, lit≤, ◌≡◌, ◌≤◌, ◌<◌, ℕ, ◌+◌, List, [], ◌∷◌, ◌++◌, length, refl, sym, ap, ◌∙◌, subst, nat_lt, ◌≢◌, if◌then◌else◌, Bool, true, inl, inr, length-append}
 use Rattle.std.proofs.Math.Path.{ap₂}
 use Rattle.std.proofs.lemmas.Grind.{common_steps}
 use Rattle.std.specs.Prelude.{Result, Ok, Err, IfOk, IfErr}
@@ -7,9 +7,8 @@ use Rattle.std.specs.List.{flat_map, AllByRecursion}
 use Rattle.text_lines.specs.declared.fault.TextFault.{TextFault}
 use Rattle.text_lines.specs.Split.{Line, ended_line, all_ended, line_bytes, unlined, words_of, lines_of}
 use Rattle.text_lines.specs.Text.{joined, spaced}
-use Rattle.text_lines.proofs.Inverse.{bound, then_was, else_was, lacks_decimal, lacks_hex}
+use Rattle.text_lines.proofs.Inverse.{bound, then_was, else_was}
 use Rattle.text_lines.proofs.Laws.{Lacks, words_of_joined, joined_words_of, lines_of_unlined, unlined_lines_of}
-use Rattle.command_codec.specs.declared.command.Command.TheVariants.{Append}
 use Rattle.mrp_config.specs.Config.{Config}
 use Rattle.schedule.specs.declared.event.ScheduleEvent.{ScheduleEvent}
 use Rattle.schedule.specs.declared.event.ScheduleEvent.TheVariants.{Ask, Flow, Lose, Deliver, List as Shown, TickAll, TickNode, TickClient, Lead, Crash, Restart, Fuse, Fail, FailRead, Show}
@@ -21,7 +20,7 @@ use Rattle.schedule.specs.Spelling.{event_words, event_line, event_lines, schedu
 use Rattle.schedule.specs.Reading.{event_in, kinded, line_of, bounded, limited, at_line, events_from, schedule_of, IsFirstFault, NamesFirst}
 use Rattle.schedule.proofs.EventLaws.{event_law, event_in_read, event_in_was}
 use Rattle.schedule.proofs.Lines.{event_then}
-use Rattle.mrp_types.proofs.TestLemmas.{both, not_above, at_most}
+use Rattle.mrp_types.proofs.TestLemmas.{not_above, at_most}
 
 -- ---- a line has no line feed, its words have no space
 

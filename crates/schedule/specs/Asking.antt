@@ -1,5 +1,5 @@
 -- Reading a client's text: one line with the words of a command, as behind `ask` and the client.
-use Rattle.std.specs.Prelude.{ℕ, ◌+◌, ◌≡◌, ◌⊎◌, nat_lt, if◌then◌else◌, List, [], ◌∷◌, length, Result, Ok, Err}
+use Rattle.std.specs.Prelude.{ℕ, ◌+◌, nat_lt, if◌then◌else◌, List, [], ◌∷◌, length, Result, Ok, Err}
 use Rattle.text_lines.specs.declared.fault.TextFault.TheVariants as words
 use Rattle.text_lines.specs.Split.{Line, line_bytes, words_of, lines_of}
 use Rattle.text_lines.specs.Reading.{◌>>=◌}

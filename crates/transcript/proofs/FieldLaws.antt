@@ -1,16 +1,16 @@
 -- Each kind of word is read as it is spelled, and what is read is spelled so.
-use Rattle.std.proofs.Common.{arith, lit<, ◌≡◌, ◌≢◌, ◌≤◌, ◌<◌, ℕ, ◌^◌, List, [], ◌∷◌, ◌++◌, length, Option, Some, None, refl, sym, ap, ◌∙◌, subst, nat_lt, nat_le, ◌==◌, ◌&&◌, if◌then◌else◌, Bool, true, false, codes, Ok, Err, IsTrue}
+use Rattle.std.proofs.Common.{arith, lit<, ◌≡◌, ◌≤◌, ◌<◌, ℕ, ◌^◌, List, [], ◌∷◌, length, Option, Some, None, refl, sym, ap, ◌∙◌, subst, nat_lt, nat_le, ◌==◌, ◌&&◌, if◌then◌else◌, Bool, true, false, codes, Ok, Err, IsTrue}
 use Rattle.std.proofs.Math.Path.{ap₂}
 use Rattle.std.proofs.lemmas.Grind.{common_steps}
 use Rattle.std.proofs.lemmas.Slice.Eq.{bytes_eq-Decides}
 use Rattle.std.specs.Prelude.{Result, map}
-use Rattle.std.specs.List.{AllByRecursion, flat_map}
+use Rattle.std.specs.List.{AllByRecursion}
 use Rattle.std.specs.Option.{option_map, option_and_then}
 use Rattle.std.specs.Str.{bytes_eq}
 use Rattle.std.specs.Fmt.{decimal}
 use Rattle.hex.specs.Hex.{encode_lower, decode_pairs}
 use Rattle.text_lines.specs.Split.{pieces_of, onto_first}
-use Rattle.text_lines.specs.Text.{set_off, joined_by}
+use Rattle.text_lines.specs.Text.{joined_by}
 use Rattle.text_lines.specs.Reading.{number_of as decimal_of, hex_of}
 use Rattle.text_lines.specs.declared.fault.TextFault.{TextFault}
 use Rattle.text_lines.proofs.Laws.{Lacks, pieces_of_joined, joined_pieces_of}

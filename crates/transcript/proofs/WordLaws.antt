@@ -1,15 +1,13 @@
 -- Readers of words, and how what they read is spelled.
-use Rattle.std.proofs.Common.{arith, ◌≡◌, ◌<◌, ℕ, List, [], ◌∷◌, ◌++◌, Option, Some, None, refl, sym, ap, ◌∙◌, subst, if◌then◌else◌, Bool, true, false, append_assoc, nat_lt, ◌&&◌, Ok, Err}
+use Rattle.std.proofs.Common.{◌≡◌, ◌<◌, ℕ, List, [], ◌∷◌, Option, Some, None, refl, sym, ap, subst, if◌then◌else◌, Bool, true, false, Ok, Err}
 use Rattle.std.proofs.lemmas.Slice.Eq.{bytes_eq-Decides}
 use Rattle.std.specs.Prelude.{Result}
-use Rattle.std.specs.List.{AllByRecursion}
 use Rattle.std.specs.Option.{ok_or}
 use Rattle.std.specs.Str.{bytes_eq}
-use Rattle.text_lines.specs.Reading.{◌>>=◌, word_at as plain_word}
+use Rattle.text_lines.specs.Reading.{word_at as plain_word}
 use Rattle.text_lines.specs.declared.fault.TextFault.{TextFault}
-use Rattle.text_lines.proofs.Inverse.{bound, done as plain_done}
+use Rattle.text_lines.proofs.Inverse.{done as plain_done}
 use Rattle.text_lines.proofs.Laws.{Lacks}
-use Rattle.mrp_types.proofs.TestLemmas.{both as both_tests}
 use Rattle.transcript.specs.declared.fault.LineKind.{LineKind}
 use Rattle.transcript.specs.declared.fault.LineKind.TheVariants.{Word}
 use Rattle.text_lines.specs.Words.{given}

@@ -1,4 +1,4 @@
-use Rattle.std.proofs.Common.{arith, sym, inr, ◌≤◌, length}
+use Rattle.std.proofs.Common.{arith, sym, inr}
 use Rattle.schedule.proofs.AskLaws.{nothing, inside, refused, one_line, two_lines}
 use Rattle.schedule.proofs.asking.read_lines.Goals as goal
 
