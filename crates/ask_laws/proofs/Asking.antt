@@ -9,10 +9,10 @@ use Rattle.mrp_config.specs.declared.routing.NoGroup.{NoGroup}
 use Rattle.mrp_config.specs.Config.{Config}
 use Rattle.mrp_config.specs.Routing.{concerned_of, route_of}
 use Rattle.plain_model.proofs.TupleOrder.{split_and, same_number}
-use Rattle.protocol.specs.Client.{MayBeAsked, Asked, ClientView, ClientDid, idles, sends_it, asked_first, asks_on, asks_beside, asks}
+use Rattle.protocol.specs.Client.{MayBeAsked, Asked, ClientView, ClientEffects, idles, sends_it, asked_first, asks_on, asks_beside, asks}
 use Rattle.bare_world.specs.Runs.{IsClient}
 use Rattle.ask_laws.specs.Asks.{is_free, takes, or_else, IsTaken, ClientKeeps, ClientsKeep}
-use Rattle.ask_laws.proofs.Clients.{or_more, keeps_more, DidKeeps, Sends, submits_carry}
+use Rattle.ask_laws.proofs.Clients.{or_more, keeps_more, EffectsKeep, Sends, submits_carry}
 
 pub taken_later : (config : Config) (c s n m : ℕ) (command : Command) → n ≤ m → IsTaken config c s n command → IsTaken config c s m command
 taken_later config c s n m command more t =
@@ -55,10 +55,10 @@ module _ (config : Config) (asked : ℕ → ℕ → Option Command) (clients : �
   still_told c s x e = or_more (asked c s) (if (id.0 == c) && (((clients id.0).next == s) && takes config (clients id.0) command) then Some command else None) x e
 
   -- what the client makes of it
-  pub record AskKeeps (did : ClientDid) : Type 0 where
-    pub next : (clients id.0).next ≤ did.client.next
-    pub keeps : DidKeeps config now_asked id.0 did
-    pub taken : (s : ℕ) (x : Command) → now_asked id.0 s ≡ Some x → IsTaken config id.0 s did.client.next x
+  pub record AskKeeps (effects : ClientEffects) : Type 0 where
+    pub next : (clients id.0).next ≤ effects.client.next
+    pub keeps : EffectsKeep config now_asked id.0 effects
+    pub taken : (s : ℕ) (x : Command) → now_asked id.0 s ≡ Some x → IsTaken config id.0 s effects.client.next x
 
   module _ (there : IsClient config id) (valid : MayBeAsked command) (k : ClientsKeep config asked clients) where
     own_still : ClientKeeps config now_asked id.0 (clients id.0)

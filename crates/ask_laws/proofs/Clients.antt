@@ -15,11 +15,11 @@ use Rattle.mrp_config.specs.Config.{Config, ring_at, partition_at}
 use Rattle.mrp_config.specs.Routing.{concerned_of, route_of, is_concerned}
 use Rattle.frames.specs.declared.body.Body.{Body}
 use Rattle.frames.specs.declared.body.Body.TheVariants as bodies
-use Rattle.protocol.specs.Client.{MayBeAsked, Asked, ClientView, ClientDid, idles, acceptor_at, acceptors_of, submit_to, submits, sends_it, ticks_for, client_ticks, fits, has_part, with_part, have_all, answers, gathered, replied_with, replied_by, replied_for, replied, client_takes}
+use Rattle.protocol.specs.Client.{MayBeAsked, Asked, ClientView, ClientEffects, idles, acceptor_at, acceptors_of, submit_to, submits, sends_it, ticks_for, client_ticks, fits, has_part, with_part, have_all, answers, gathered, replied_with, replied_by, replied_for, replied, client_takes}
 use Rattle.bare_world.specs.Runs.{IsClient}
 use Rattle.ask_laws.specs.Carried.{LineCarries, SentCarries}
 use Rattle.ask_laws.specs.Asks.{or_else, IsAsked, IsTaken, IsAwaited, IsAwaitedOrNone, ClientKeeps}
-use Rattle.ask_laws.proofs.Commands.{short_command}
+use Rattle.command_codec.proofs.Sizes.{short_command}
 
 -- ---- what is taken stays taken
 
@@ -51,10 +51,10 @@ keeps_more config old new c view more k = record { id = k.id; first = k.first; a
 -- ---- what a client sends
 
 -- what it makes of an event
-pub record DidKeeps (config : Config) (asked : ℕ → ℕ → Option Command) (c : ℕ) (did : ClientDid) : Type 0 where
-  pub client : ClientKeeps config asked c did.client
-  pub frames : AllByRecursion (SentCarries (IsAsked config asked)) did.frames
-  pub lines : AllByRecursion (LineCarries (IsAsked config asked)) did.lines
+pub record EffectsKeep (config : Config) (asked : ℕ → ℕ → Option Command) (c : ℕ) (effects : ClientEffects) : Type 0 where
+  pub client : ClientKeeps config asked c effects.client
+  pub frames : AllByRecursion (SentCarries (IsAsked config asked)) effects.frames
+  pub lines : AllByRecursion (LineCarries (IsAsked config asked)) effects.lines
 
 module _ (config : Config) (asked : ℕ → ℕ → Option Command) (c : ℕ) where
   -- a command that was taken under its number
@@ -92,9 +92,9 @@ module _ (config : Config) (asked : ℕ → ℕ → Option Command) (c : ℕ) wh
   abbrev pub Taken : ℕ → Type 0
   Taken next = (s : ℕ) (command : Command) → asked c s ≡ Some command → IsTaken config c s next command
 
-  pub record Still (view : ClientView) (did : ClientDid) : Type 0 where
-    pub next : did.client.next ≡ view.next
-    pub keeps : DidKeeps config asked c did
+  pub record Still (view : ClientView) (effects : ClientEffects) : Type 0 where
+    pub next : effects.client.next ≡ view.next
+    pub keeps : EffectsKeep config asked c effects
 
   idle_still : (view : ClientView) → ClientKeeps config asked c view → Still view (idles view)
   idle_still view k = record { next = refl; keeps = record { client = k; frames = tt; lines = tt } }

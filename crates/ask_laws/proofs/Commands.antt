@@ -1,46 +1,13 @@
--- Commands are short, and what is spelled of bytes is of bytes.
-use Rattle.std.proofs.Common.{◌≡◌, ◌≤◌, ◌<◌, ℕ, suc, ◌+◌, List, [], ◌∷◌, length, map, arith, length-append, subst, sym}
+-- What is spelled of bytes is of bytes.
+use Rattle.std.proofs.Common.{◌<◌, ℕ, suc, List, [], ◌∷◌, length, arith, subst, sym}
 use Rattle.std.specs.List.{AllByRecursion, flat_map}
-use Rattle.std.proofs.lemmas.Grind.{common_steps}
 use Rattle.std.proofs.lemmas.List.Concat.{flat_map-cons}
 use Rattle.hex.specs.Hex.{IsBytes}
 use Rattle.mrp_types.specs.declared.value.Entry.{Entry}
-use Rattle.mrp_types.specs.declared.id.LogId.{LogId}
-use Rattle.command_codec.specs.declared.command.Command.{Command}
-use Rattle.command_codec.specs.declared.command.Command.TheVariants.{Append, Multi, ReadLog, TrimLog, Get, Scan, Update, Insert, Delete}
 use Rattle.command_codec.specs.Fields.{u16_bytes, u64_bytes, string16}
-use Rattle.command_codec.specs.Spelling.{command_bytes, entry_bytes, batch_bytes}
-use Rattle.command_codec.specs.Valid.{IsCommand}
-use Rattle.command_codec.proofs.Sizes.{length-u64_bytes, length-string16}
+use Rattle.command_codec.specs.Spelling.{entry_bytes, batch_bytes}
 use Rattle.state_laws.proofs.Examples.{bytes_by}
 use Rattle.ask_laws.proofs.Lists.{appended}
-
--- a copy of the lemma of this name in world, which is private there
-pub short_command : (command : Command) → IsCommand command → length (command_bytes command) ≤ 4096
-short_command (Append log value) is = let fits : length value ≤ 2048 = is.1 in grind (arith, common_steps, length-string16 value)
-short_command (Multi logs value) is =
-    let fits : length value ≤ 2048 = is.1 in
-    let few : length logs ≤ 64 = is.0.1 in
-    omega (arith, multi_length logs value, fits, few)
-  where
-    multi_length : (logs : List LogId) (value : List ℕ) → length (command_bytes (Multi logs value)) ≡ length logs + length value + 4
-    multi_length logs value = grind (arith, common_steps, length-append (map (λ (log : LogId). log.0) logs) (string16 value), length-string16 value)
-short_command (ReadLog log position) is = grind (arith, common_steps, length-u64_bytes position)
-short_command (TrimLog log position) is = grind (arith, common_steps, length-u64_bytes position)
-short_command (Get key) is = let fits : length key ≤ 256 = is.1 in grind (arith, common_steps, length-string16 key)
-short_command (Scan from to) is =
-    let first : length from ≤ 256 = is.0 in
-    let second : length to ≤ 256 = is.1 in
-    grind (arith, common_steps, length-append (string16 from) (string16 to), length-string16 from, length-string16 to)
-short_command (Update key value) is =
-    let first : length key ≤ 256 = is.0.1 in
-    let second : length value ≤ 2048 = is.1 in
-    grind (arith, common_steps, length-append (string16 key) (string16 value), length-string16 key, length-string16 value)
-short_command (Insert key value) is =
-    let first : length key ≤ 256 = is.0.1 in
-    let second : length value ≤ 2048 = is.1 in
-    grind (arith, common_steps, length-append (string16 key) (string16 value), length-string16 key, length-string16 value)
-short_command (Delete key) is = let fits : length key ≤ 256 = is.1 in grind (arith, common_steps, length-string16 key)
 
 -- ---- bytes
 

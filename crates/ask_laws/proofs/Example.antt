@@ -15,7 +15,7 @@ use Rattle.protocol.specs.Ballots.{covered_to}
 use Rattle.protocol.specs.Client.{asks}
 use Rattle.protocol.specs.Coordinator.{leads, submits}
 use Rattle.protocol.specs.Learner.{are_all_held, met_over, gap_after, learns}
-use Rattle.protocol.specs.Learning.{does}
+use Rattle.protocol.specs.Learning.{applies_effects}
 use Rattle.protocol.specs.Merging.{merges}
 use Rattle.protocol.specs.Opening.{opened}
 use Rattle.protocol.specs.Proposing.{first_where, offers, proposing, proposes_after}
@@ -33,7 +33,7 @@ use Rattle.plain_model.specs.Lines.{learnings}
 use Rattle.ask_laws.specs.Example.{config, command, entry, a_run, learned}
 
 pub run-learns : learnings (run config a_run nothing).lines ≡ learned ∷ []
-unfolding u16_bytes u64_bytes append_at command_of_kind command_at entry_at batch_at bytes_at number_at within length_at string_at is_concerned effect_of apply state_bytes covered_to asks leads submits are_all_held met_over gap_after learns does merges opened first_where offers proposing proposes_after restores chooses begins members_of step spread_over quiet_after ranges_of are_held lib.Count.ones
+unfolding u16_bytes u64_bytes append_at command_of_kind command_at entry_at batch_at bytes_at number_at within length_at string_at is_concerned effect_of apply state_bytes covered_to asks leads submits are_all_held met_over gap_after learns applies_effects merges opened first_where offers proposing proposes_after restores chooses begins members_of step spread_over quiet_after ranges_of are_held lib.Count.ones
 run-learns = refl
 
 asked_bytes : IsBytes (command_bytes command)
@@ -78,7 +78,7 @@ run-valid = record {
   journal = (omega arith, omega arith);
   nodes = record { few = (omega arith, omega arith); ids = (omega arith, tt); numbers = (omega arith, tt); addresses = (node_address, tt) };
   clients = record { few = omega arith; ids = (omega arith, tt); numbers = (omega arith, tt); addresses = (client_address, tt) };
-  rings = record { few = (omega arith, omega arith); ids = (omega arith, tt); numbers = (omega arith, tt); acceptors = (seats, tt) };
+  rings = record { few = (omega arith, omega arith); ids = (omega arith, tt); numbers = (omega arith, tt); acceptors = (seats, tt); rounds = ((omega arith, omega arith), tt) };
   partitions = record {
     few = (omega arith, omega arith);
     ids = (omega arith, tt);

@@ -11,13 +11,13 @@ use Rattle.frames.specs.declared.sent.Sent.{Sent}
 use Rattle.vote_state.specs.declared.ring.RingState.{RingState}
 use Rattle.vote_state.specs.State.{State, no_votes}
 use Rattle.vote_journal.specs.Journal.{Journal}
-use Rattle.checkpoint.specs.Checks.{Checks}
+use Rattle.checkpoint.specs.Checkpoints.{Checkpoints}
 use Rattle.protocol.specs.Lines.{Line, Cause}
 use Rattle.protocol.specs.Lines as line
 use Rattle.protocol.specs.Node.{Event, Ticks, Takes, Leads, Stepped, Work}
 use Rattle.protocol.specs.Opening.{opened}
 use Rattle.protocol.specs.Step.{step}
-use Rattle.bare_world.specs.Worlds.{Possible, Host, Up, Down, World, nothing, with_host, possible_of, chosen, goes_on, goes_down, steps_as, breaks_as, crashes_as, opens_as, fails_as}
+use Rattle.bare_world.specs.Worlds.{Possible, Host, Up, Down, World, nothing, with_host, possible_of, chosen, after_step, goes_down, steps_as, breaks_as, crashes_as, opens_as, fails_as}
 use Rattle.bare_world.specs.Runs.{MayCome, MayOpenAt, MayLeaveAt}
 use Rattle.ask_laws.specs.Carried.{VotesCarry, StateCarries, WorkCarries, LineCarries, SentCarries, PartyCarries, EventCarries, StepCarries, HostCarries, WorldCarries}
 use Rattle.ask_laws.proofs.Lists.{appended, one_of}
@@ -41,12 +41,12 @@ module _ (Is : ℕ → Entry → Type 0) where
       by k true = is
       by k false = c.hosts k
 
-  goes_on_carries : (id : NodeId) (before : List Line) (did : Stepped) (w : World) → AllByRecursion (LineCarries Is) before → StepCarries Is did → WorldCarries Is w
-      → WorldCarries Is (goes_on id before did w)
-  goes_on_carries id before did w lines d c =
-      let up : World = with_host id (Up did.view) w in
-      let sent : World = record up { frames = up.frames ++ did.frames } in
-      lines_put (before ++ did.lines) sent (appended (LineCarries Is) before did.lines lines d.lines) (frames_put did.frames up d.frames (host_put id (Up did.view) w d.view c))
+  after_step_carries : (id : NodeId) (before : List Line) (made : Stepped) (w : World) → AllByRecursion (LineCarries Is) before → StepCarries Is made → WorldCarries Is w
+      → WorldCarries Is (after_step id before made w)
+  after_step_carries id before made w lines d c =
+      let up : World = with_host id (Up made.view) w in
+      let sent : World = record up { frames = up.frames ++ made.frames } in
+      lines_put (before ++ made.lines) sent (appended (LineCarries Is) before made.lines lines d.lines) (frames_put made.frames up d.frames (host_put id (Up made.view) w d.view c))
 
   goes_down_carries : (id : NodeId) (cause : Cause) (durable pending : Possible) (w : World) → StateCarries Is durable.state → StateCarries Is pending.state → WorldCarries Is w
       → WorldCarries Is (goes_down id cause durable pending w)
@@ -68,12 +68,12 @@ module _ (Is : ℕ → Entry → Type 0) where
   crashes_carry id cause (Down durable pending) w h c = c
   crashes_carry id cause (Up view) w h c = goes_down_carries id cause (possible_of view) (possible_of view) w h.state h.state c
 
-  pub opens_carry : (config : Config) (id : NodeId) (after : Bool) (journal : Journal) (checks : Checks) (host : Host) (w : World) → MayOpenAt config id after journal checks host
+  pub opens_carry : (config : Config) (id : NodeId) (after : Bool) (journal : Journal) (checkpoints : Checkpoints) (host : Host) (w : World) → MayOpenAt config id after journal checkpoints host
       → HostCarries Is host → WorldCarries Is w
-      → WorldCarries Is (opens_as config id journal checks host w)
-  opens_carry config id after journal checks (Up view) w may h c = c
-  opens_carry config id after journal checks (Down durable pending) w may h c =
-      let now : World = goes_on id (line.Up id journal.state.epoch ∷ []) (opened config id journal checks) w in
+      → WorldCarries Is (opens_as config id journal checkpoints host w)
+  opens_carry config id after journal checkpoints (Up view) w may h c = c
+  opens_carry config id after journal checkpoints (Down durable pending) w may h c =
+      let now : World = after_step id (line.Up id journal.state.epoch ∷ []) (opened config id journal checkpoints) w in
       record {
         hosts = on.hosts;
         frames = on.frames;
@@ -85,8 +85,8 @@ module _ (Is : ℕ → Entry → Type 0) where
       state : StateCarries Is journal.state
       state = same_rings (chosen after durable pending).state journal.state may.rings (chosen_carries after durable pending h.0 h.1)
 
-      on : WorldCarries Is (goes_on id (line.Up id journal.state.epoch ∷ []) (opened config id journal checks) w)
-      on = goes_on_carries id (line.Up id journal.state.epoch ∷ []) (opened config id journal checks) w (tt, tt) (opened_carries Is config id journal checks state) c
+      on : WorldCarries Is (after_step id (line.Up id journal.state.epoch ∷ []) (opened config id journal checkpoints) w)
+      on = after_step_carries id (line.Up id journal.state.epoch ∷ []) (opened config id journal checkpoints) w (tt, tt) (opened_carries Is config id journal checkpoints state) c
 
   pub fails_carry : (id : NodeId) (after : Bool) (left : Possible) (cause : Cause) (host : Host) (w : World) → MayLeaveAt after left host → HostCarries Is host → WorldCarries Is w
       → WorldCarries Is (fails_as id after left cause host w)
@@ -99,7 +99,7 @@ module _ (Is : ℕ → Entry → Type 0) where
     pub steps_carry : (id : NodeId) (event : Event) (host : Host) (w : World) → EventCarries Is event → HostCarries Is host → WorldCarries Is w → WorldCarries Is (steps_as config id event host w)
     steps_carry id event (Down durable pending) w came h c = c
     steps_carry id event (Up view) w came h c =
-        let now : World = goes_on id [] (step config view event) w in
+        let now : World = after_step id [] (step config view event) w in
         record {
           hosts = on.hosts;
           frames = on.frames;
@@ -111,8 +111,8 @@ module _ (Is : ℕ → Entry → Type 0) where
         made : StepCarries Is (step config view event)
         made = step_carries Is valid config view event h came
 
-        on : WorldCarries Is (goes_on id [] (step config view event) w)
-        on = goes_on_carries id [] (step config view event) w tt made c
+        on : WorldCarries Is (after_step id [] (step config view event) w)
+        on = after_step_carries id [] (step config view event) w tt made c
 
     pub breaks_carry : (id : NodeId) (event : Event) (cause : Cause) (host : Host) (w : World) → EventCarries Is event → HostCarries Is host → WorldCarries Is w
         → WorldCarries Is (breaks_as config id event cause host w)

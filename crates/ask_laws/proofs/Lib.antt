@@ -2,7 +2,7 @@ pub mod Lists
 pub mod Acceptor
 pub mod Proposing
 pub mod Coordinating
-pub mod Acting
+pub mod SoFar
 pub mod Recovering
 pub mod Stepping
 pub mod More

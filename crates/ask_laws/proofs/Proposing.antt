@@ -17,14 +17,14 @@ use Rattle.range_map.specs.Entries.{value_at}
 use Rattle.vote_state.specs.declared.cast.Cast.{Cast}
 use Rattle.ring_link.specs.Silence.{Link}
 use Rattle.plain_model.proofs.Pages.{front-longest}
-use Rattle.protocol.specs.Parts.{Ring, Pending, Campaign, Role, Idle, Active, Did}
-use Rattle.protocol.specs.Doing.{with_part, with_campaign}
+use Rattle.protocol.specs.Parts.{Ring, Pending, Campaign, Role, Idle, Active, Effects}
+use Rattle.protocol.specs.Effects.{with_part, with_campaign}
 use Rattle.protocol.specs.Acceptor.{votes_for}
 use Rattle.protocol.specs.Ballots.{covered_to, leads_now}
 use Rattle.protocol.specs.Proposing.{reported_to, due_by, due_at, unproposed, entry_size, fresh_entries, as_proposed, with_proposed, Choice, Rests, Offers, fresh_choice, choice_of, has_room, choice, advanced, own_mask, with_outstanding, after_offer, vote_of, offers, Turn, Stops, Proposes, turn_by, turn_in, turn_of, proposing, proposes_after}
-use Rattle.ask_laws.specs.Carried.{BatchCarries, ValueCarries, RangesCarry, CampaignCarries, RoleCarries, DidCarries}
+use Rattle.ask_laws.specs.Carried.{BatchCarries, ValueCarries, RangesCarry, CampaignCarries, RoleCarries, EffectsCarry}
 use Rattle.ask_laws.proofs.Lists.{mapped, appended, fronted, OrNone, found_at}
-use Rattle.ask_laws.proofs.Acceptor.{part_made, votes_made, goes_on_made}
+use Rattle.ask_laws.proofs.Acceptor.{part_made, votes_made, decides_or_forwards_made}
 
 many_entries : (es : List Entry) → length es * 11 ≤ sum_by entry_size es
 many_entries [] = omega arith
@@ -121,14 +121,14 @@ module _ (Is : ℕ → Entry → Type 0) (valid : (r : ℕ) (e : Entry) → Is r
         by true = all
         by false = appended (λ (d : Decided). ValueCarries Is ring.id.0 d.value) outstanding (range ∷ []) all (is, tt)
 
-    pub offers_made : (link : Link) (campaign : Campaign) (range : Decided) (taken : ℕ) (did : Did) → CampaignCarries Is ring.id.0 campaign → ValueCarries Is ring.id.0 range.value
-        → DidCarries Is ring.id.0 did → DidCarries Is ring.id.0 (offers ring link campaign range taken did)
+    pub offers_made : (link : Link) (campaign : Campaign) (range : Decided) (taken : ℕ) (effects : Effects) → CampaignCarries Is ring.id.0 campaign → ValueCarries Is ring.id.0 range.value
+        → EffectsCarry Is ring.id.0 effects → EffectsCarry Is ring.id.0 (offers ring link campaign range taken effects)
     unfolding offers
-    offers_made link campaign range taken did c is m =
-        let now : Did = with_part (with_campaign (after_offer ring range taken campaign) did.part) did in
-        goes_on_made Is ring link (own_mask ring) (vote_of campaign.ballot range) (votes_for ring (vote_of campaign.ballot range) now) is
+    offers_made link campaign range taken effects c is m =
+        let now : Effects = with_part (with_campaign (after_offer ring range taken campaign) effects.part) effects in
+        decides_or_forwards_made Is ring link (own_mask ring) (vote_of campaign.ballot range) (votes_for ring (vote_of campaign.ballot range) now) is
         (votes_made Is ring (vote_of campaign.ballot range) now is
-        (part_made Is ring (with_campaign (after_offer ring range taken campaign) did.part) did
+        (part_made Is ring (with_campaign (after_offer ring range taken campaign) effects.part) effects
         (record {
           votes = m.part.votes;
           role = record { reports = c.reports; outstanding = outstanding_all range campaign.outstanding is c.outstanding; pending = proposed_all taken campaign.pending c.pending };
@@ -138,31 +138,31 @@ module _ (Is : ℕ → Entry → Type 0) (valid : (r : ℕ) (e : Entry) → Is r
     -- ---- one after another
 
     abbrev TurnCarries : Turn → Type 0
-    TurnCarries (Stops did) = DidCarries Is ring.id.0 did
-    TurnCarries (Proposes campaign range taken did) = CampaignCarries Is ring.id.0 campaign × ValueCarries Is ring.id.0 range.value × DidCarries Is ring.id.0 did
+    TurnCarries (Stops effects) = EffectsCarry Is ring.id.0 effects
+    TurnCarries (Proposes campaign range taken effects) = CampaignCarries Is ring.id.0 campaign × ValueCarries Is ring.id.0 range.value × EffectsCarry Is ring.id.0 effects
 
-    turn_carries : (did : Did) → DidCarries Is ring.id.0 did → TurnCarries (turn_of ring did)
-    turn_carries did m = by_role did.part.coordinator.role m.part.role
+    turn_carries : (effects : Effects) → EffectsCarry Is ring.id.0 effects → TurnCarries (turn_of ring effects)
+    turn_carries effects m = by_role effects.part.coordinator.role m.part.role
       where
-        by_choice : (campaign : Campaign) → CampaignCarries Is ring.id.0 campaign → (x : Choice) → ChoiceCarries x → TurnCarries (turn_by did campaign x)
-        by_choice campaign c Rests is = part_made Is ring (with_campaign campaign did.part) did (record { votes = m.part.votes; role = c; held = m.part.held }) m
+        by_choice : (campaign : Campaign) → CampaignCarries Is ring.id.0 campaign → (x : Choice) → ChoiceCarries x → TurnCarries (turn_by effects campaign x)
+        by_choice campaign c Rests is = part_made Is ring (with_campaign campaign effects.part) effects (record { votes = m.part.votes; role = c; held = m.part.held }) m
         by_choice campaign c (Offers range taken) is = (c, is, m)
 
-        by_role : (role : Role) → RoleCarries Is ring.id.0 role → TurnCarries (turn_in ring did role)
+        by_role : (role : Role) → RoleCarries Is ring.id.0 role → TurnCarries (turn_in ring effects role)
         by_role Idle is = m
         by_role (Active campaign) is =
-            let c : CampaignCarries Is ring.id.0 (advanced did.part campaign) = record { reports = is.reports; outstanding = is.outstanding; pending = is.pending } in
-            by_choice (advanced did.part campaign) c (choice ring (advanced did.part campaign) did.part.learner.held) (choice_carries (advanced did.part campaign) did.part.learner.held c)
+            let c : CampaignCarries Is ring.id.0 (advanced effects.part campaign) = record { reports = is.reports; outstanding = is.outstanding; pending = is.pending } in
+            by_choice (advanced effects.part campaign) c (choice ring (advanced effects.part campaign) effects.part.learner.held) (choice_carries (advanced effects.part campaign) effects.part.learner.held c)
 
-    proposing_made : (n : ℕ) (link : Link) (turn : Turn) → TurnCarries turn → DidCarries Is ring.id.0 (proposing n ring link turn)
+    proposing_made : (n : ℕ) (link : Link) (turn : Turn) → TurnCarries turn → EffectsCarry Is ring.id.0 (proposing n ring link turn)
     unfolding proposing
-    proposing_made zero link (Stops did) t = t
-    proposing_made zero link (Proposes campaign range taken did) t = t.2
-    proposing_made (suc n) link (Stops did) t = t
-    proposing_made (suc n) link (Proposes campaign range taken did) t =
-        proposing_made n link (turn_of ring (offers ring link campaign range taken did))
-        (turn_carries (offers ring link campaign range taken did) (offers_made link campaign range taken did t.0 t.1 t.2))
+    proposing_made zero link (Stops effects) t = t
+    proposing_made zero link (Proposes campaign range taken effects) t = t.2
+    proposing_made (suc n) link (Stops effects) t = t
+    proposing_made (suc n) link (Proposes campaign range taken effects) t =
+        proposing_made n link (turn_of ring (offers ring link campaign range taken effects))
+        (turn_carries (offers ring link campaign range taken effects) (offers_made link campaign range taken effects t.0 t.1 t.2))
 
-    pub proposes_made : (link : Link) (did : Did) → DidCarries Is ring.id.0 did → DidCarries Is ring.id.0 (proposes_after ring link did)
+    pub proposes_made : (link : Link) (effects : Effects) → EffectsCarry Is ring.id.0 effects → EffectsCarry Is ring.id.0 (proposes_after ring link effects)
     unfolding proposes_after
-    proposes_made link did m = proposing_made END link (turn_of ring did) (turn_carries did m)
+    proposes_made link effects m = proposing_made END link (turn_of ring effects) (turn_carries effects m)

@@ -10,27 +10,27 @@ use Rattle.mrp_config.specs.declared.tables.NodeTable.{NodeTable}
 use Rattle.frames.specs.declared.body.Body.{Body}
 use Rattle.frames.specs.declared.body.Body.TheVariants as body
 use Rattle.frames.specs.declared.sent.Sent.{Sent}
-use Rattle.checkpoint.specs.Checks.{Checkpoint, PartAnswer, Part as PartOf, Gone, Unknown, part_of, is_after}
+use Rattle.checkpoint.specs.Checkpoints.{Checkpoint, PartAnswer, Part as PartOf, Gone, Unknown, part_of, is_after}
 use Rattle.plain_model.specs.Replicas.{Replica, empty_replica}
 use Rattle.plain_model.specs.StateBytes.{state_of}
 use Rattle.plain_model.specs.Tuples.{round_sizes, first_tuple, is_tuple_of, instances}
 use Rattle.protocol.specs.Lines.{Line, Begin, Chose, Restore, Refuse, AttemptLimit}
 use Rattle.protocol.specs.Rings.{is_beyond, sends, sends_to}
 use Rattle.protocol.specs.Trimming.{has_answered}
-use Rattle.protocol.specs.Node.{Acting, View, RingPart, Service, Stage, Recovering, Ready, Attempt, Choice, part_at, with_stage, prints, sends_all}
+use Rattle.protocol.specs.Node.{StepSoFar, View, RingPart, Service, Stage, Recovering, Ready, Attempt, Choice, part_at, with_stage, prints, sends_all}
 use Rattle.protocol.specs.Merging.{place_of}
 use Rattle.protocol.specs.Recovery.{epoch_of, own_tuple, others_of, with_lowered, lowers, restores, restores_read, installs_own, best_of, asks_part, gathers, chooses, chooses_best, chooses_if_quorum, asks_checkpoint, begins_next, begins, is_of, takes_answer, answered_by, is_of_choice, restores_or_begins, with_more, part_for, takes_part, gone_for, takes_gone, tells_checkpoint, answer_part, tells_part, asks_missing, ends_attempt, ticks_attempt, recovery_ticks}
-use Rattle.protocol.specs.Step.{waits_below, begins_if_behind, after_trim, behind, tells_safe, at_service, at_attempt, recovering}
+use Rattle.protocol.specs.Step.{waits_below, begins_if_waits_below, after_trim, recovers_if_trimmed, tells_safe, at_service, at_attempt, recovering}
 use Rattle.protocol.specs.Tick.{turn_of, fetches_at, fetches_stage, fetches_missing, shares_ring, greets, recovery_ticks_at, asks_on_beat}
 use Rattle.ask_laws.specs.Carried.{RingPartCarries, BodyCarries, SentCarries, ActCarries}
 use Rattle.ask_laws.proofs.Lists.{appended}
 use Rattle.ask_laws.proofs.Acceptor.{sends_to_carry, sends_carry, each_carries}
-use Rattle.ask_laws.proofs.Acting.{prints_act, sends_act, stage_act, merges_act}
+use Rattle.ask_laws.proofs.SoFar.{prints_act, sends_act, stage_act, merges_act}
 
 module _ (Is : ℕ → Entry → Type 0) where
   -- a word keeps what a step carries
-  abbrev pub Keeps : (Acting → Acting) → Type 0
-  Keeps word = (a : Acting) → ActCarries Is a → ActCarries Is (word a)
+  abbrev pub Keeps : (StepSoFar → StepSoFar) → Type 0
+  Keeps word = (a : StepSoFar) → ActCarries Is a → ActCarries Is (word a)
 
   abbrev AllSent : List Sent → Type 0
   AllSent frames = AllByRecursion (SentCarries Is) frames
@@ -56,8 +56,8 @@ module _ (Is : ℕ → Entry → Type 0) where
   restores_keep : (config : Config) (service : Service) (tuple : List (RingId × ℕ)) (replica : Replica) → Keeps (restores config service tuple replica)
   unfolding restores
   restores_keep config service tuple replica a c =
-      let printed : Acting = prints (Restore a.view.id (instances tuple) ∷ []) a in
-      let lowered : Acting = lowers tuple printed in
+      let printed : StepSoFar = prints (Restore a.view.id (instances tuple) ∷ []) a in
+      let lowered : StepSoFar = lowers tuple printed in
       let stage : Stage = Ready (record { tuple = tuple; replica = replica; delivered = 0 }) in
       merges_act Is config (with_stage service stage lowered)
       (stage_act Is service stage lowered (lowers_keep tuple printed (prints_act Is (Restore a.view.id (instances tuple) ∷ []) a (tt, tt) c)))
@@ -79,9 +79,9 @@ module _ (Is : ℕ → Entry → Type 0) where
       now : ActCarries Is (with_stage service (Recovering (record attempt { choice = Some choice })) a)
       now = stage_act Is service (Recovering (record attempt { choice = Some choice })) a c
 
-      by : (t : Bool) → ActCarries Is (if t then installs_own config service a.view.checks.newest (with_stage service (Recovering (record attempt { choice = Some choice })) a)
+      by : (t : Bool) → ActCarries Is (if t then installs_own config service a.view.checkpoints.newest (with_stage service (Recovering (record attempt { choice = Some choice })) a)
           else sends_all (asks_part a.view attempt choice) (with_stage service (Recovering (record attempt { choice = Some choice })) a))
-      by true = installs_keep config service a.view.checks.newest (with_stage service (Recovering (record attempt { choice = Some choice })) a) now
+      by true = installs_keep config service a.view.checkpoints.newest (with_stage service (Recovering (record attempt { choice = Some choice })) a) now
       by false = sends_act Is (asks_part a.view attempt choice) (with_stage service (Recovering (record attempt { choice = Some choice })) a) (asks_part_carry a.view attempt choice) now
 
   chooses_keep : (config : Config) (service : Service) (attempt : Attempt) (best : NodeId × List (RingId × ℕ)) → Keeps (chooses config service attempt best)
@@ -187,8 +187,8 @@ module _ (Is : ℕ → Entry → Type 0) where
       answers (Gone newer) = appended (SentCarries Is) (sends_to a.view.id from (body.Gone epoch number tuple newer)) [] (to_carry a.view.id from (body.Gone epoch number tuple newer) tt) tt
       answers Unknown = tt
 
-      by : (t : Bool) → ActCarries Is (if t then sends_all (flat_map (sends_to a.view.id from) (answer_part epoch number tuple offset (part_of a.view.checks tuple offset))) a else a)
-      by true = sends_act Is (flat_map (sends_to a.view.id from) (answer_part epoch number tuple offset (part_of a.view.checks tuple offset))) a (answers (part_of a.view.checks tuple offset)) c
+      by : (t : Bool) → ActCarries Is (if t then sends_all (flat_map (sends_to a.view.id from) (answer_part epoch number tuple offset (part_of a.view.checkpoints tuple offset))) a else a)
+      by true = sends_act Is (flat_map (sends_to a.view.id from) (answer_part epoch number tuple offset (part_of a.view.checkpoints tuple offset))) a (answers (part_of a.view.checkpoints tuple offset)) c
       by false = c
 
   -- ---- ticks of an attempt
@@ -214,9 +214,9 @@ module _ (Is : ℕ → Entry → Type 0) where
       asked true = missing attempt.choice
       asked false = tt
 
-      by : (t : Bool) → ActCarries Is (if t then ends_attempt config service attempt a
+      by : (t : Bool) → ActCarries Is (if t then ends_attempt config service attempt (with_stage service (Recovering attempt) a)
           else sends_all (if again then asks_missing service attempt attempt.choice a.view else []) (with_stage service (Recovering attempt) a))
-      by true = ends_keep config service attempt a c
+      by true = ends_keep config service attempt (with_stage service (Recovering attempt) a) (stage_act Is service (Recovering attempt) a c)
       by false = sends_act Is (if again then asks_missing service attempt attempt.choice a.view else []) (with_stage service (Recovering attempt) a) (asked again) (stage_act Is service (Recovering attempt) a c)
 
   pub recovery_keeps : (config : Config) (again : Bool) (o : Option Service) → Keeps (recovery_ticks_at config again o)
@@ -229,10 +229,10 @@ module _ (Is : ℕ → Entry → Type 0) where
 
   -- ---- a replica that waits below a trim, and what asks a replica
 
-  pub behind_keeps : (config : Config) (id : RingId) (trim : ℕ) → Keeps (behind config id trim)
-  behind_keeps config id trim a c = by_service a.view.service
+  pub recovers_if_trimmed_keeps : (config : Config) (id : RingId) (trim : ℕ) → Keeps (recovers_if_trimmed config id trim)
+  recovers_if_trimmed_keeps config id trim a c = by_service a.view.service
     where
-      by_stage : (service : Service) (stage : Stage) → ActCarries Is (begins_if_behind config id trim service stage a)
+      by_stage : (service : Service) (stage : Stage) → ActCarries Is (begins_if_waits_below config id trim service stage a)
       by_stage service (Recovering attempt) = c
       by_stage service (Ready standing) = by (waits_below id trim (place_of config standing))
         where
@@ -248,11 +248,11 @@ module _ (Is : ℕ → Entry → Type 0) where
   safe_keeps from id round None a c = c
   safe_keeps from id round (Some inst) a c = sends_act Is (sends_to a.view.id from (body.Safe id round inst)) a (to_carry a.view.id from (body.Safe id round inst) tt) c
 
-  pub service_keeps : (rule : Service → Acting → Acting) → ((s : Service) → Keeps (rule s)) → (o : Option Service) → Keeps (at_service rule o)
+  pub service_keeps : (rule : Service → StepSoFar → StepSoFar) → ((s : Service) → Keeps (rule s)) → (o : Option Service) → Keeps (at_service rule o)
   service_keeps rule each None a c = c
   service_keeps rule each (Some service) a c = each service a c
 
-  pub recovering_keeps : (rule : Service → Attempt → Acting → Acting) → ((s : Service) (now : Attempt) → Keeps (rule s now)) → (o : Option Service) → Keeps (recovering rule o)
+  pub recovering_keeps : (rule : Service → Attempt → StepSoFar → StepSoFar) → ((s : Service) (now : Attempt) → Keeps (rule s now)) → (o : Option Service) → Keeps (recovering rule o)
   recovering_keeps rule each None a c = c
   recovering_keeps rule each (Some service) a c = at service.stage
     where

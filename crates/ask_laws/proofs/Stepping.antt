@@ -22,12 +22,12 @@ use Rattle.vote_state.specs.declared.change.Change.TheVariants.{Epoch, Promise, 
 use Rattle.vote_state.specs.Ranges.{cast_of}
 use Rattle.vote_state.specs.State.{State, ring_at, no_votes, nothing_kept, with_promise, with_vote, with_trim, with_ring, changed, taken}
 use Rattle.vote_journal.specs.Journal.{Journal, recorded}
-use Rattle.checkpoint.specs.Checks.{Checks}
+use Rattle.checkpoint.specs.Checkpoints.{Checkpoints}
 use Rattle.frames.specs.declared.body.Body.{Body}
 use Rattle.frames.specs.declared.body.Body.TheVariants as body
 use Rattle.ring_link.specs.Silence.{with_heard, with_tick}
 use Rattle.plain_model.specs.StateBytes.{state_bytes}
-use Rattle.protocol.specs.Parts.{Ring, Part, Did}
+use Rattle.protocol.specs.Parts.{Ring, Part, Effects}
 use Rattle.protocol.specs.Rings.{is_acceptor, is_member, ring_of}
 use Rattle.protocol.specs.Learner.{decided, chosen}
 use Rattle.protocol.specs.Acceptor.{prepares, accepts, fetches}
@@ -35,19 +35,19 @@ use Rattle.protocol.specs.Ballots.{is_active}
 use Rattle.protocol.specs.Coordinator.{leads, promised, refused, submits}
 use Rattle.protocol.specs.Leading.{starts_on_tick, resends, levels}
 use Rattle.protocol.specs.Trimming.{trimmed, answers, asks_round}
-use Rattle.protocol.specs.Node.{Acting, View, RingPart, Service, Stage, Recovering, Ready, Event, Ticks, Takes, Leads, work_of, begun_with, finished, part_at}
+use Rattle.protocol.specs.Node.{StepSoFar, View, RingPart, Service, Stage, Recovering, Ready, Event, Ticks, Takes, Leads, work_of, begun_with, finished, part_at}
 use Rattle.protocol.specs.Recovery.{answered_by, takes_part, takes_gone, tells_checkpoint, tells_part, safe_of}
 use Rattle.protocol.specs.Bases.{base_by, rebased, rebases}
-use Rattle.protocol.specs.Learning.{does}
+use Rattle.protocol.specs.Learning.{applies_effects}
 use Rattle.protocol.specs.Opening.{partition_of, part_of_ring, parts_of, view_of, begins_first, opened}
-use Rattle.protocol.specs.Step.{behind, at_acceptor, at_member, is_for, takes_submit, takes_trim_at, takes_body, takes_from, step}
+use Rattle.protocol.specs.Step.{recovers_if_trimmed, at_acceptor, at_member, is_for, handles_submit, handles_trim_at, handles_body, handles_from, step}
 use Rattle.protocol.specs.Tick.{saves, is_due_to_save, saves_stage, saves_first, is_due_to_compact, compacts, rules_at, rules_for, ticks_ring, ticks_rings, recovery_ticks_at, asks_on_beat, beats_with, beats, or_compacts, ticks}
-use Rattle.ask_laws.specs.Carried.{ValueCarries, VotesCarry, VotedCarry, RangesCarry, PartCarries, RingPartCarries, StateCarries, ViewCarries, ChangeCarries, WorkCarries, SentCarries, BodyCarries, PartyCarries, EventCarries, DidCarries, ActCarries, StepCarries}
+use Rattle.ask_laws.specs.Carried.{ValueCarries, VotesCarry, VotedCarry, RangesCarry, PartCarries, RingPartCarries, StateCarries, ViewCarries, ChangeCarries, WorkCarries, SentCarries, BodyCarries, PartyCarries, EventCarries, EffectsCarry, ActCarries, StepCarries}
 use Rattle.ask_laws.proofs.Lists.{appended, filtered, range_all}
 use Rattle.ask_laws.proofs.Acceptor.{prepares_made, accepts_made, fetches_made}
 use Rattle.ask_laws.proofs.Coordinating.{leads_made, promised_made, refused_made, submits_made, starts_made, resends_made, levels_made, trimmed_made, asks_round_made, answers_made, decided_made, chosen_made}
-use Rattle.ask_laws.proofs.Acting.{FoundCarries, part_found, does_act}
-use Rattle.ask_laws.proofs.Recovering.{begins_keep, answered_keeps, part_keeps, gone_keeps, tells_keep, tells_part_keeps, recovery_keeps, behind_keeps, safe_keeps, service_keeps, recovering_keeps, beat_keeps}
+use Rattle.ask_laws.proofs.SoFar.{FoundCarries, part_found, applies_effects_act}
+use Rattle.ask_laws.proofs.Recovering.{begins_keep, answered_keeps, part_keeps, gone_keeps, tells_keep, tells_part_keeps, recovery_keeps, recovers_if_trimmed_keeps, safe_keeps, service_keeps, recovering_keeps, beat_keeps}
 
 -- ---- what is kept for good
 
@@ -95,7 +95,7 @@ module _ (Is : ℕ → Entry → Type 0) where
   work_carries [] all = tt
   work_carries (change ∷ cs) all = all
 
-  finished_carries : (a : Acting) → ActCarries Is a → StepCarries Is (finished a)
+  finished_carries : (a : StepSoFar) → ActCarries Is a → StepCarries Is (finished a)
   finished_carries a c = record {
     view = record { state = recorded_carries a.view.journal a.changes c.changes c.view.state; parts = c.view.parts };
     work = work_carries a.changes c.changes;
@@ -114,7 +114,7 @@ module _ (Is : ℕ → Entry → Type 0) where
     rebased_all service parts all.1,
   )
 
-  rebases_act : (a : Acting) → ActCarries Is a → ActCarries Is (rebases a)
+  rebases_act : (a : StepSoFar) → ActCarries Is a → ActCarries Is (rebases a)
   rebases_act a c = record {
     view = record { state = c.view.state; parts = rebased_all a.view.service a.view.parts c.view.parts };
     changes = c.changes;
@@ -123,7 +123,7 @@ module _ (Is : ℕ → Entry → Type 0) where
     lines = c.lines;
   }
 
-  ends : (a : Acting) → ActCarries Is a → StepCarries Is (finished (rebases a))
+  ends : (a : StepSoFar) → ActCarries Is a → StepCarries Is (finished (rebases a))
   ends a c = finished_carries (rebases a) (rebases_act a c)
 
   begun : (view : View) → ViewCarries Is view → ActCarries Is (begun_with view)
@@ -140,82 +140,82 @@ module _ (Is : ℕ → Entry → Type 0) where
       by true later = (record { votes = c ring.id.0; role = tt; held = tt }, later)
       by false later = later
 
-  pub opened_carries : (config : Config) (id : NodeId) (journal : Journal) (checks : Checks) → StateCarries Is journal.state → StepCarries Is (opened config id journal checks)
+  pub opened_carries : (config : Config) (id : NodeId) (journal : Journal) (checkpoints : Checkpoints) → StateCarries Is journal.state → StepCarries Is (opened config id journal checkpoints)
   unfolding opened
-  opened_carries config id journal checks c =
-      finished_carries (begins_first config (partition_of config.partitions id) (begun_with (view_of config id journal checks))) (by (partition_of config.partitions id))
+  opened_carries config id journal checkpoints c =
+      finished_carries (begins_first config (partition_of config.partitions id) (begun_with (view_of config id journal checkpoints))) (by (partition_of config.partitions id))
     where
-      first : ActCarries Is (begun_with (view_of config id journal checks))
-      first = begun (view_of config id journal checks) (record { state = c; parts = new_part_carries config id journal.state c config.rings })
+      first : ActCarries Is (begun_with (view_of config id journal checkpoints))
+      first = begun (view_of config id journal checkpoints) (record { state = c; parts = new_part_carries config id journal.state c config.rings })
 
-      by : (o : Option PartitionTable) → ActCarries Is (begins_first config o (begun_with (view_of config id journal checks)))
+      by : (o : Option PartitionTable) → ActCarries Is (begins_first config o (begun_with (view_of config id journal checkpoints)))
       by None = first
       by (Some partition) = begins_keep Is config (record { partition = partition; attempts = 0; stage = Recovering (record { number = 0; ticks = 0; answers = []; choice = None }) })
-          (begun_with (view_of config id journal checks)) first
+          (begun_with (view_of config id journal checkpoints)) first
 
 -- ---- a rule at a ring's part
 
 module _ (Is : ℕ → Entry → Type 0) (valid : (r : ℕ) (e : Entry) → Is r e → IsEntry e) (config : Config) where
   -- a rule that carries what is there, where its ring has this id
-  abbrev Rule : RingId → (Ring → Part → Acting → Did) → Type 0
-  Rule id rule = (r : Ring) (part : Part) (a : Acting) → r.id.0 ≡ id.0 → PartCarries Is r.id.0 part → DidCarries Is r.id.0 (rule r part a)
+  abbrev Rule : RingId → (Ring → Part → StepSoFar → Effects) → Type 0
+  Rule id rule = (r : Ring) (part : Part) (a : StepSoFar) → r.id.0 ≡ id.0 → PartCarries Is r.id.0 part → EffectsCarry Is r.id.0 (rule r part a)
 
-  does_at : (id : RingId) (rule : Ring → Part → Acting → Did) → Rule id rule → (p : RingPart) (a : Acting) → FoundCarries Is id (Some p) → ActCarries Is a
-      → ActCarries Is (does config p.ring (rule p.ring p.part a) a)
-  does_at id rule carries p a found c = does_act Is valid config p.ring (rule p.ring p.part a) a (carries p.ring p.part a found.0 found.1) c
+  applies_effects_at : (id : RingId) (rule : Ring → Part → StepSoFar → Effects) → Rule id rule → (p : RingPart) (a : StepSoFar) → FoundCarries Is id (Some p) → ActCarries Is a
+      → ActCarries Is (applies_effects config p.ring (rule p.ring p.part a) a)
+  applies_effects_at id rule carries p a found c = applies_effects_act Is valid config p.ring (rule p.ring p.part a) a (carries p.ring p.part a found.0 found.1) c
 
-  at_acceptors : (id : RingId) (rule : Ring → Part → Acting → Did) → Rule id rule → (a : Acting) → ActCarries Is a
-      → ActCarries Is (at_acceptor (λ r part b. does config r (rule r part b) b) (part_at a.view id) a)
+  at_acceptors : (id : RingId) (rule : Ring → Part → StepSoFar → Effects) → Rule id rule → (a : StepSoFar) → ActCarries Is a
+      → ActCarries Is (at_acceptor (λ r part b. applies_effects config r (rule r part b) b) (part_at a.view id) a)
   at_acceptors id rule carries a c = at (part_at a.view id) (part_found Is id a.view.parts c.view.parts)
     where
-      at : (o : Option RingPart) → FoundCarries Is id o → ActCarries Is (at_acceptor (λ r part b. does config r (rule r part b) b) o a)
+      at : (o : Option RingPart) → FoundCarries Is id o → ActCarries Is (at_acceptor (λ r part b. applies_effects config r (rule r part b) b) o a)
       at None found = c
       at (Some p) found = by (is_acceptor p.ring)
         where
-          by : (t : Bool) → ActCarries Is (if t then does config p.ring (rule p.ring p.part a) a else a)
-          by true = does_at id rule carries p a found c
+          by : (t : Bool) → ActCarries Is (if t then applies_effects config p.ring (rule p.ring p.part a) a else a)
+          by true = applies_effects_at id rule carries p a found c
           by false = c
 
-  at_members : (id : RingId) (rule : Ring → Part → Acting → Did) → Rule id rule → (a : Acting) → ActCarries Is a
-      → ActCarries Is (at_member (λ r part b. does config r (rule r part b) b) (part_at a.view id) a)
+  at_members : (id : RingId) (rule : Ring → Part → StepSoFar → Effects) → Rule id rule → (a : StepSoFar) → ActCarries Is a
+      → ActCarries Is (at_member (λ r part b. applies_effects config r (rule r part b) b) (part_at a.view id) a)
   at_members id rule carries a c = at (part_at a.view id) (part_found Is id a.view.parts c.view.parts)
     where
-      at : (o : Option RingPart) → FoundCarries Is id o → ActCarries Is (at_member (λ r part b. does config r (rule r part b) b) o a)
+      at : (o : Option RingPart) → FoundCarries Is id o → ActCarries Is (at_member (λ r part b. applies_effects config r (rule r part b) b) o a)
       at None found = c
-      at (Some p) found = does_at id rule carries p a found c
+      at (Some p) found = applies_effects_at id rule carries p a found c
 
   -- ---- frames
 
-  submit_act : (ring : RingId) (hops : ℕ) (client : ClientId) (seq : ℕ) (command : List ℕ) → Is ring.0 (record { client = client; seq = seq; command = command }) → (a : Acting) → ActCarries Is a
-      → ActCarries Is (takes_submit config ring hops client seq command a)
+  submit_act : (ring : RingId) (hops : ℕ) (client : ClientId) (seq : ℕ) (command : List ℕ) → Is ring.0 (record { client = client; seq = seq; command = command }) → (a : StepSoFar) → ActCarries Is a
+      → ActCarries Is (handles_submit config ring hops client seq command a)
   submit_act ring hops client seq command asked a c = by (is_for config ring (command_of command))
     where
-      by : (t : Bool) → ActCarries Is (if t then at_acceptor (λ r part b. does config r (submits r b.view.link part hops client seq command) b) (part_at a.view ring) a else a)
+      by : (t : Bool) → ActCarries Is (if t then at_acceptor (λ r part b. applies_effects config r (submits r b.view.link part hops client seq command) b) (part_at a.view ring) a else a)
       by true = at_acceptors ring (λ r part b. submits r b.view.link part hops client seq command)
           (λ r part b same is. submits_made Is valid r b.view.link part hops client seq command (subst (λ (n : ℕ). Is n (record { client = client; seq = seq; command = command })) (sym same) asked) is) a c
       by false = c
 
-  trim_act : (ring : RingId) (trim : ℕ) (o : Option RingPart) (a : Acting) → FoundCarries Is ring o → ActCarries Is a → ActCarries Is (takes_trim_at config ring trim o a)
+  trim_act : (ring : RingId) (trim : ℕ) (o : Option RingPart) (a : StepSoFar) → FoundCarries Is ring o → ActCarries Is a → ActCarries Is (handles_trim_at config ring trim o a)
   trim_act ring trim None a found c = c
   trim_act ring trim (Some p) a found c =
-      behind_keeps Is config ring trim (if is_acceptor p.ring then does config p.ring (trimmed p.ring a.view.link p.part trim) a else a) (by (is_acceptor p.ring))
+      recovers_if_trimmed_keeps Is config ring trim (if is_acceptor p.ring then applies_effects config p.ring (trimmed p.ring a.view.link p.part trim) a else a) (by (is_acceptor p.ring))
     where
-      by : (t : Bool) → ActCarries Is (if t then does config p.ring (trimmed p.ring a.view.link p.part trim) a else a)
-      by true = does_act Is valid config p.ring (trimmed p.ring a.view.link p.part trim) a (trimmed_made Is valid p.ring a.view.link p.part trim found.1) c
+      by : (t : Bool) → ActCarries Is (if t then applies_effects config p.ring (trimmed p.ring a.view.link p.part trim) a else a)
+      by true = applies_effects_act Is valid config p.ring (trimmed p.ring a.view.link p.part trim) a (trimmed_made Is valid p.ring a.view.link p.part trim found.1) c
       by false = c
 
-  promise_act : (ring : RingId) (from : NodeId) (ballot lo hi trim : ℕ) (votes : List Voted) → VotedCarry Is ring.0 votes → (o : Option RingPart) (a : Acting) → FoundCarries Is ring o → ActCarries Is a
-      → ActCarries Is (at_acceptor (λ r part b. behind config ring trim (does config r (promised r b.view.link part from ballot lo hi trim votes) b)) o a)
+  promise_act : (ring : RingId) (from : NodeId) (ballot lo hi trim : ℕ) (votes : List Voted) → VotedCarry Is ring.0 votes → (o : Option RingPart) (a : StepSoFar) → FoundCarries Is ring o → ActCarries Is a
+      → ActCarries Is (at_acceptor (λ r part b. recovers_if_trimmed config ring trim (applies_effects config r (promised r b.view.link part from ballot lo hi trim votes) b)) o a)
   promise_act ring from ballot lo hi trim votes came None a found c = c
   promise_act ring from ballot lo hi trim votes came (Some p) a found c = by (is_acceptor p.ring)
     where
-      by : (t : Bool) → ActCarries Is (if t then behind config ring trim (does config p.ring (promised p.ring a.view.link p.part from ballot lo hi trim votes) a) else a)
-      by true = behind_keeps Is config ring trim (does config p.ring (promised p.ring a.view.link p.part from ballot lo hi trim votes) a)
-          (does_act Is valid config p.ring (promised p.ring a.view.link p.part from ballot lo hi trim votes) a
+      by : (t : Bool) → ActCarries Is (if t then recovers_if_trimmed config ring trim (applies_effects config p.ring (promised p.ring a.view.link p.part from ballot lo hi trim votes) a) else a)
+      by true = recovers_if_trimmed_keeps Is config ring trim (applies_effects config p.ring (promised p.ring a.view.link p.part from ballot lo hi trim votes) a)
+          (applies_effects_act Is valid config p.ring (promised p.ring a.view.link p.part from ballot lo hi trim votes) a
           (promised_made Is valid p.ring a.view.link p.part from ballot lo hi trim votes (subst (λ (n : ℕ). VotedCarry Is n votes) (sym found.0) came) found.1) c)
       by false = c
 
-  body_act : (from : NodeId) (b : Body) → BodyCarries Is b → (a : Acting) → ActCarries Is a → ActCarries Is (takes_body config from b a)
+  body_act : (from : NodeId) (b : Body) → BodyCarries Is b → (a : StepSoFar) → ActCarries Is a → ActCarries Is (handles_body config from b a)
   body_act from (body.Submit ring hops client seq command) came a c = submit_act ring hops client seq command came a c
   body_act from (body.Prepare ring ballot lo) came a c =
       at_acceptors ring (λ r part b. prepares r part from ballot lo) (λ r part b same is. prepares_made Is r part from ballot lo is) a c
@@ -249,17 +249,17 @@ module _ (Is : ℕ → Entry → Type 0) (valid : (r : ℕ) (e : Entry) → Is r
   body_act from (body.Reply client seq partition reply) came a c = c
   body_act from body.Hello came a c = c
 
-  from_act : (from : Party) (b : Body) → PartyCarries Is from b → (a : Acting) → ActCarries Is a → ActCarries Is (takes_from config from b a)
+  from_act : (from : Party) (b : Body) → PartyCarries Is from b → (a : StepSoFar) → ActCarries Is a → ActCarries Is (handles_from config from b a)
   from_act (Node from) b came a c =
-      let heard : Acting = record a { view = record a.view { link = with_heard from.0 a.view.link } } in
+      let heard : StepSoFar = record a { view = record a.view { link = with_heard from.0 a.view.link } } in
       body_act from b came heard (record { view = record { state = c.view.state; parts = c.view.parts }; changes = c.changes; frames = c.frames; replies = c.replies; lines = c.lines })
   from_act (Client from) (body.Submit ring hops client seq command) came a c = submit_act ring hops client seq command came.2 a c
   from_act (Client from) other came a c = c
 
   -- ---- a tick
 
-  rules_act : (id : RingId) (rule : Ring → Part → View → Did) → ((r : Ring) (part : Part) (view : View) → PartCarries Is r.id.0 part → DidCarries Is r.id.0 (rule r part view))
-      → (a : Acting) → ActCarries Is a
+  rules_act : (id : RingId) (rule : Ring → Part → View → Effects) → ((r : Ring) (part : Part) (view : View) → PartCarries Is r.id.0 part → EffectsCarry Is r.id.0 (rule r part view))
+      → (a : StepSoFar) → ActCarries Is a
       → ActCarries Is (rules_for config id rule a)
   rules_act id rule carries a c = at (part_at a.view id) (part_found Is id a.view.parts c.view.parts)
     where
@@ -267,40 +267,40 @@ module _ (Is : ℕ → Entry → Type 0) (valid : (r : ℕ) (e : Entry) → Is r
       at None found = c
       at (Some p) found = by (is_acceptor p.ring)
         where
-          by : (t : Bool) → ActCarries Is (if t then does config p.ring (rule p.ring p.part a.view) a else a)
-          by true = does_act Is valid config p.ring (rule p.ring p.part a.view) a (carries p.ring p.part a.view found.1) c
+          by : (t : Bool) → ActCarries Is (if t then applies_effects config p.ring (rule p.ring p.part a.view) a else a)
+          by true = applies_effects_act Is valid config p.ring (rule p.ring p.part a.view) a (carries p.ring p.part a.view found.1) c
           by false = c
 
-  ring_act : (active again trims : Bool) (id : RingId) (a : Acting) → ActCarries Is a → ActCarries Is (ticks_ring config active again trims id a)
+  ring_act : (active again trims : Bool) (id : RingId) (a : StepSoFar) → ActCarries Is a → ActCarries Is (ticks_ring config active again trims id a)
   ring_act active again trims id a c =
-      let one : Acting = rules_for config id (λ r part view. starts_on_tick r view.link part) a in
-      let two : Acting = (if again && active then rules_for config id (λ r part view. resends r view.link part) else (λ b. b)) one in
-      let three : Acting = (if trims then rules_for config id (λ r part view. asks_round r view.link part (safe_of view id view.service)) else (λ b. b)) two in
+      let one : StepSoFar = rules_for config id (λ r part view. starts_on_tick r view.link part) a in
+      let two : StepSoFar = (if again && active then rules_for config id (λ r part view. resends r view.link part) else (λ b. b)) one in
+      let three : StepSoFar = (if trims then rules_for config id (λ r part view. asks_round r view.link part (safe_of view id view.service)) else (λ b. b)) two in
       rules_act id (λ r part view. levels r view.link part) (λ r part view is. levels_made Is valid r view.link part is) three
       (asked trims two
       (resent (again && active) one
       (rules_act id (λ r part view. starts_on_tick r view.link part) (λ r part view is. starts_made Is valid r view.link part is) a c)))
     where
-      resent : (t : Bool) (b : Acting) → ActCarries Is b → ActCarries Is ((if t then rules_for config id (λ r part view. resends r view.link part) else (λ x. x)) b)
+      resent : (t : Bool) (b : StepSoFar) → ActCarries Is b → ActCarries Is ((if t then rules_for config id (λ r part view. resends r view.link part) else (λ x. x)) b)
       resent false b is = is
       resent true b is = rules_act id (λ r part view. resends r view.link part) (λ r part view p. resends_made Is valid r view.link part p) b is
 
-      asked : (t : Bool) (b : Acting) → ActCarries Is b → ActCarries Is ((if t then rules_for config id (λ r part view. asks_round r view.link part (safe_of view id view.service)) else (λ x. x)) b)
+      asked : (t : Bool) (b : StepSoFar) → ActCarries Is b → ActCarries Is ((if t then rules_for config id (λ r part view. asks_round r view.link part (safe_of view id view.service)) else (λ x. x)) b)
       asked false b is = is
       asked true b is = rules_act id (λ r part view. asks_round r view.link part (safe_of view id view.service))
           (λ r part view p. asks_round_made Is valid r view.link part (safe_of view id view.service) p) b is
 
-  rings_act : (again trims : Bool) (parts : List RingPart) (a : Acting) → ActCarries Is a → ActCarries Is (ticks_rings config again trims parts a)
+  rings_act : (again trims : Bool) (parts : List RingPart) (a : StepSoFar) → ActCarries Is a → ActCarries Is (ticks_rings config again trims parts a)
   rings_act again trims [] a c = c
   rings_act again trims (p ∷ parts) a c =
       rings_act again trims parts (ticks_ring config (is_active p.part.coordinator) again trims p.ring.id a) (ring_act (is_active p.part.coordinator) again trims p.ring.id a c)
 
-  beats_act : (parts : List RingPart) (beat : ℕ) (again : Bool) (a : Acting) → ActCarries Is a → ActCarries Is (beats_with config parts beat again a)
+  beats_act : (parts : List RingPart) (beat : ℕ) (again : Bool) (a : StepSoFar) → ActCarries Is a → ActCarries Is (beats_with config parts beat again a)
   beats_act parts beat again a c =
       on_beat again (ticks_rings config again (beat % config.trim == 0) parts (recovery_ticks_at config again a.view.service a))
       (rings_act again (beat % config.trim == 0) parts (recovery_ticks_at config again a.view.service a) (recovery_keeps Is config again a.view.service a c))
     where
-      on_beat : (t : Bool) (b : Acting) → ActCarries Is b → ActCarries Is ((if t then asks_on_beat config (beat / config.resend) else (λ x. x)) b)
+      on_beat : (t : Bool) (b : StepSoFar) → ActCarries Is b → ActCarries Is ((if t then asks_on_beat config (beat / config.resend) else (λ x. x)) b)
       on_beat false b is = is
       on_beat true b is = beat_keeps Is config (beat / config.resend) b is
 
@@ -334,7 +334,7 @@ module _ (Is : ℕ → Entry → Type 0) (valid : (r : ℕ) (e : Entry) → Is r
   pub step_carries : (view : View) (event : Event) → ViewCarries Is view → EventCarries Is event → StepCarries Is (step config view event)
   unfolding step
   step_carries view Ticks c came = ticks_carry view c
-  step_carries view (Takes frame) c came = ends Is (takes_from config frame.from frame.body (begun_with view)) (from_act frame.from frame.body came (begun_with view) (begun Is view c))
+  step_carries view (Takes frame) c came = ends Is (handles_from config frame.from frame.body (begun_with view)) (from_act frame.from frame.body came (begun_with view) (begun Is view c))
   step_carries view (Leads ring) c came =
-      ends Is (at_acceptor (λ r part a. does config r (leads r a.view.link part) a) (part_at view ring) (begun_with view))
+      ends Is (at_acceptor (λ r part a. applies_effects config r (leads r a.view.link part) a) (part_at view ring) (begun_with view))
       (at_acceptors ring (λ r part a. leads r a.view.link part) (λ r part a same is. leads_made Is valid r a.view.link part is) (begun_with view) (begun Is view c))

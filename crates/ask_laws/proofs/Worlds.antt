@@ -9,14 +9,14 @@ use Rattle.mrp_config.specs.Config.{Config}
 use Rattle.plain_model.proofs.TupleOrder.{same_number, other_number}
 use Rattle.protocol.specs.Lines.{Line}
 use Rattle.protocol.specs.Lines as line
-use Rattle.protocol.specs.Client.{ClientView, ClientDid, asks, client_ticks, client_takes}
-use Rattle.bare_world.specs.Worlds.{Host, Up, Down, World, nothing, Happening, Steps, Breaks, Crashes, Opens, Fails, Asks, ClientTicks, ClientTakes, Shows, Lists, with_client, client_does, steps_as, breaks_as, crashes_as, opens_as, fails_as, state_of_host, happens}
+use Rattle.protocol.specs.Client.{ClientView, ClientEffects, asks, client_ticks, client_takes}
+use Rattle.bare_world.specs.Worlds.{Host, Up, Down, World, nothing, Happening, Steps, Breaks, Crashes, Opens, Fails, Asks, ClientTicks, ClientTakes, Shows, Lists, with_client, client_step, steps_as, breaks_as, crashes_as, opens_as, fails_as, state_of_host, happens}
 use Rattle.bare_world.specs.Runs.{MayHappen, run, MayRun}
 use Rattle.ask_laws.specs.Carried.{WorldCarries}
 use Rattle.ask_laws.specs.Asks.{asked_with, asked_after, asked_in, IsAsked, IsTaken, ClientKeeps, ClientsKeep}
 use Rattle.ask_laws.proofs.More.{world_more}
 use Rattle.ask_laws.proofs.Hosts.{lines_put, frames_put, came_carries, crashes_carry, opens_carry, fails_carry, steps_carry, breaks_carry, none_carries}
-use Rattle.ask_laws.proofs.Clients.{asked_more, keeps_more, DidKeeps, Still, ticks_still, takes_still}
+use Rattle.ask_laws.proofs.Clients.{asked_more, keeps_more, EffectsKeep, Still, ticks_still, takes_still}
 use Rattle.ask_laws.proofs.Asking.{now_asked, told_by, still_told, AskKeeps, asks_keep}
 
 -- what a run keeps, with what was asked so far
@@ -47,29 +47,29 @@ module _ (config : Config) (old new : ℕ → ℕ → Option Command) (more : (c
           by true h = subst (λ (n : ℕ). ClientKeeps config new n view) (sym (same_number c id.0 h)) is
           by false h = keeps_more config old new c (clients c) (more c) (k.each c)
 
-  does_keeps : (id : ClientId) (did : ClientDid) (w : World) → RunKeeps config old w → ((s : ℕ) (x : Command) → new id.0 s ≡ Some x → IsTaken config id.0 s did.client.next x)
-      → ((c s : ℕ) (x : Command) → (id.0 ≡ c → ⊥) → new c s ≡ Some x → old c s ≡ Some x) → DidKeeps config new id.0 did → RunKeeps config new (client_does id did w)
-  does_keeps id did w keeps own others d = record {
-    clients = clients_put w.clients id did.client keeps.clients own others d.client;
-    carried = lines_put (IsAsked config new) did.lines sent d.lines (frames_put (IsAsked config new) did.frames put d.frames still);
+  applies_effects_keeps : (id : ClientId) (effects : ClientEffects) (w : World) → RunKeeps config old w → ((s : ℕ) (x : Command) → new id.0 s ≡ Some x → IsTaken config id.0 s effects.client.next x)
+      → ((c s : ℕ) (x : Command) → (id.0 ≡ c → ⊥) → new c s ≡ Some x → old c s ≡ Some x) → EffectsKeep config new id.0 effects → RunKeeps config new (client_step id effects w)
+  applies_effects_keeps id effects w keeps own others d = record {
+    clients = clients_put w.clients id effects.client keeps.clients own others d.client;
+    carried = lines_put (IsAsked config new) effects.lines sent d.lines (frames_put (IsAsked config new) effects.frames put d.frames still);
   }
     where
       put : World
-      put = with_client id did.client w
+      put = with_client id effects.client w
 
       sent : World
-      sent = record put { frames = put.frames ++ did.frames }
+      sent = record put { frames = put.frames ++ effects.frames }
 
       before : WorldCarries (IsAsked config new) w
       before = world_more (IsAsked config old) (IsAsked config new) (asked_more config old new more) w keeps.carried
 
-      still : WorldCarries (IsAsked config new) (with_client id did.client w)
+      still : WorldCarries (IsAsked config new) (with_client id effects.client w)
       still = record { hosts = before.hosts; frames = before.frames; lines = before.lines; works = before.works; read = before.read }
 
 module _ (config : Config) (asked : ℕ → ℕ → Option Command) where
-  still_keeps : (id : ClientId) (did : ClientDid) (w : World) → RunKeeps config asked w → Still config asked id.0 (w.clients id.0) did → RunKeeps config asked (client_does id did w)
-  still_keeps id did w keeps still =
-      does_keeps config asked asked (λ c s x e. e) id did w keeps
+  still_keeps : (id : ClientId) (effects : ClientEffects) (w : World) → RunKeeps config asked w → Still config asked id.0 (w.clients id.0) effects → RunKeeps config asked (client_step id effects w)
+  still_keeps id effects w keeps still =
+      applies_effects_keeps config asked asked (λ c s x e. e) id effects w keeps
       (λ s x e. subst (λ (n : ℕ). IsTaken config id.0 s n x) (sym still.next) (keeps.clients.taken id.0 s x e)) (λ c s x other e. e) still.keeps
 
   -- what happens at a node leaves the clients
@@ -100,11 +100,11 @@ module _ (config : Config) (asked : ℕ → ℕ → Option Command) where
       same : (host : Host) → (crashes_as id cause host w).clients ≡ w.clients
       same (Up view) = refl
       same (Down durable pending) = refl
-  happening_keeps w (Opens id after journal checks) may keeps =
-      at_node w (opens_as config id journal checks (w.hosts id.0) w) (same (w.hosts id.0)) keeps
-      (opens_carry (IsAsked config asked) config id after journal checks (w.hosts id.0) w may (keeps.carried.hosts id.0) keeps.carried)
+  happening_keeps w (Opens id after journal checkpoints) may keeps =
+      at_node w (opens_as config id journal checkpoints (w.hosts id.0) w) (same (w.hosts id.0)) keeps
+      (opens_carry (IsAsked config asked) config id after journal checkpoints (w.hosts id.0) w may (keeps.carried.hosts id.0) keeps.carried)
     where
-      same : (host : Host) → (opens_as config id journal checks host w).clients ≡ w.clients
+      same : (host : Host) → (opens_as config id journal checkpoints host w).clients ≡ w.clients
       same (Up view) = refl
       same (Down durable pending) = refl
   happening_keeps w (Fails id after left cause) may keeps =
@@ -115,7 +115,7 @@ module _ (config : Config) (asked : ℕ → ℕ → Option Command) where
       same (Up view) = refl
       same (Down durable pending) = refl
   happening_keeps w (Asks id command) may keeps =
-      does_keeps config asked (now_asked config asked w.clients id command) (still_told config asked w.clients id command) id (asks config (w.clients id.0) command) w keeps made.taken others made.keeps
+      applies_effects_keeps config asked (now_asked config asked w.clients id command) (still_told config asked w.clients id command) id (asks config (w.clients id.0) command) w keeps made.taken others made.keeps
     where
       made : AskKeeps config asked w.clients id command (asks config (w.clients id.0) command)
       made = asks_keep config asked w.clients id command may.0 may.1 keeps.clients

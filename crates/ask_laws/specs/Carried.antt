@@ -19,8 +19,8 @@ use Rattle.vote_state.specs.declared.change.Change.{Change}
 use Rattle.vote_state.specs.declared.change.Change.TheVariants.{Vote}
 use Rattle.vote_state.specs.State.{State, no_votes}
 use Rattle.protocol.specs.Lines.{Line, Learn}
-use Rattle.protocol.specs.Parts.{Pending, Campaign, Role, Idle, Active, Part, Did}
-use Rattle.protocol.specs.Node.{RingPart, View, Event, Takes, Work, Records, Stepped, Acting}
+use Rattle.protocol.specs.Parts.{Pending, Campaign, Role, Idle, Active, Part, Effects}
+use Rattle.protocol.specs.Node.{RingPart, View, Event, Takes, Work, Records, Stepped, StepSoFar}
 use Rattle.bare_world.specs.Worlds.{Host, Up, Down, World}
 
 -- ---- values
@@ -118,15 +118,15 @@ EventCarries Is (Takes frame) = PartyCarries Is frame.from frame.body
 EventCarries Is other = Unit {0}
 
 -- a rule of a ring
-pub record DidCarries (Is : ℕ → Entry → Type 0) (ring : ℕ) (did : Did) : Type 0 where
-  pub part : PartCarries Is ring did.part
-  pub changes : AllByRecursion (ChangeCarries Is) did.changes
-  pub frames : AllByRecursion (SentCarries Is) did.frames
-  pub lines : AllByRecursion (LineCarries Is) did.lines
-  pub learned : RangesCarry Is ring did.learned
+pub record EffectsCarry (Is : ℕ → Entry → Type 0) (ring : ℕ) (effects : Effects) : Type 0 where
+  pub part : PartCarries Is ring effects.part
+  pub changes : AllByRecursion (ChangeCarries Is) effects.changes
+  pub frames : AllByRecursion (SentCarries Is) effects.frames
+  pub lines : AllByRecursion (LineCarries Is) effects.lines
+  pub learned : RangesCarry Is ring effects.learned
 
 -- a step on its way
-pub record ActCarries (Is : ℕ → Entry → Type 0) (a : Acting) : Type 0 where
+pub record ActCarries (Is : ℕ → Entry → Type 0) (a : StepSoFar) : Type 0 where
   pub view : ViewCarries Is a.view
   pub changes : AllByRecursion (ChangeCarries Is) a.changes
   pub frames : AllByRecursion (SentCarries Is) a.frames
@@ -134,11 +134,11 @@ pub record ActCarries (Is : ℕ → Entry → Type 0) (a : Acting) : Type 0 wher
   pub lines : AllByRecursion (LineCarries Is) a.lines
 
 -- a step
-pub record StepCarries (Is : ℕ → Entry → Type 0) (did : Stepped) : Type 0 where
-  pub view : ViewCarries Is did.view
-  pub work : WorkCarries Is did.work
-  pub frames : AllByRecursion (SentCarries Is) did.frames
-  pub lines : AllByRecursion (LineCarries Is) did.lines
+pub record StepCarries (Is : ℕ → Entry → Type 0) (effects : Stepped) : Type 0 where
+  pub view : ViewCarries Is effects.view
+  pub work : WorkCarries Is effects.work
+  pub frames : AllByRecursion (SentCarries Is) effects.frames
+  pub lines : AllByRecursion (LineCarries Is) effects.lines
 
 -- ---- a world
 

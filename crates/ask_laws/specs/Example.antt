@@ -16,7 +16,7 @@ use Rattle.frames.specs.declared.frame.Frame.{Frame}
 use Rattle.vote_state.specs.State.{nothing_kept}
 use Rattle.vote_journal.specs.Journal.{Journal}
 use Rattle.disk_model.specs.declared.area.Area.TheVariants.{Journal0}
-use Rattle.checkpoint.specs.Checks.{no_checks}
+use Rattle.checkpoint.specs.Checkpoints.{no_checkpoints}
 use Rattle.protocol.specs.Node.{Takes, Leads}
 use Rattle.bare_world.specs.Worlds.{Happening, Asks, Opens, Steps}
 
@@ -44,7 +44,7 @@ config = record {
   journal = 1048576;
   nodes = (record { id = node; address = 49 ∷ 50 ∷ 55 ∷ 46 ∷ 48 ∷ 46 ∷ 48 ∷ 46 ∷ 49 ∷ 58 ∷ 55 ∷ 49 ∷ 48 ∷ 48 ∷ [] }) ∷ [];
   clients = (record { id = client; address = 49 ∷ 50 ∷ 55 ∷ 46 ∷ 48 ∷ 46 ∷ 48 ∷ 46 ∷ 49 ∷ 58 ∷ 55 ∷ 50 ∷ 48 ∷ 48 ∷ [] }) ∷ [];
-  rings = (record { id = ring; acceptors = node ∷ [] }) ∷ [];
+  rings = (record { id = ring; acceptors = node ∷ []; m = 1 }) ∷ [];
   partitions = (record {
     id = record { 0 = 0 };
     replicas = node ∷ [];
@@ -78,7 +78,7 @@ submit = record { from = Client client; body = Submit ring 0 client 1 (command_b
 
 -- The client is told to ask, the node opens and is told to lead, and then it gets the client's frame.
 abbrev pub a_run : List Happening
-a_run = Asks client command ∷ Opens node false journal no_checks ∷ Steps node (Leads ring) ∷ Steps node (Takes submit) ∷ []
+a_run = Asks client command ∷ Opens node false journal no_checkpoints ∷ Steps node (Leads ring) ∷ Steps node (Takes submit) ∷ []
 
 -- what is learned: a batch of the command alone
 abbrev pub learned : Learning

@@ -19,7 +19,7 @@ use Rattle.frames.specs.declared.frame.Frame.{Frame}
 use Rattle.disk_model.specs.declared.area.Area.TheVariants as area
 use Rattle.vote_state.specs.State.{State, nothing_kept}
 use Rattle.vote_journal.specs.Journal.{Journal}
-use Rattle.checkpoint.specs.Checks.{no_checks}
+use Rattle.checkpoint.specs.Checkpoints.{no_checkpoints}
 use Rattle.protocol.specs.Lines as line
 use Rattle.protocol.specs.Node.{Leads, Takes}
 use Rattle.bare_world.specs.Worlds.{Happening, Steps, Breaks, Opens, Asks}
@@ -44,7 +44,7 @@ abbrev pub address : ℕ → ℕ → List ℕ
 address hundreds last = 49 ∷ 50 ∷ 55 ∷ 46 ∷ 48 ∷ 46 ∷ 48 ∷ 46 ∷ 49 ∷ 58 ∷ 55 ∷ hundreds ∷ 48 ∷ last ∷ []
 
 abbrev pub table : RingTable
-table = record { id = ring; acceptors = node 0 ∷ node 1 ∷ node 2 ∷ [] }
+table = record { id = ring; acceptors = node 0 ∷ node 1 ∷ node 2 ∷ []; m = 1 }
 
 -- three acceptors, and a replica that is none
 abbrev pub config : Config
@@ -70,7 +70,7 @@ abbrev pub journal : ℕ → State → Journal
 journal n state = record { id = node n; log = record { area = area.Journal0; generation = 1; end = 0; base_end = 0; limit = 1048576 }; state = state }
 
 abbrev pub opens_first : ℕ → Happening
-opens_first n = Opens (node n) false (journal n (record nothing_kept { epoch = 1 })) no_checks
+opens_first n = Opens (node n) false (journal n (record nothing_kept { epoch = 1 })) no_checkpoints
 
 abbrev pub from_node : ℕ → Body → Frame
 from_node n b = record { from = Node (node n); body = b }
@@ -103,7 +103,7 @@ stopped_vote =
 -- its disk shows the vote; acceptor 1 leads in ballot 4, with the promise of acceptor 2, and proposes the same; acceptor 2 votes
 abbrev pub another_leader : List Happening
 another_leader =
-    Opens (node 1) true (journal 1 voted) no_checks ∷
+    Opens (node 1) true (journal 1 voted) no_checkpoints ∷
     Steps (node 1) (Leads ring) ∷
     Steps (node 2) (Takes (from_node 1 (body.Prepare ring 4 0))) ∷
     Steps (node 1) (Takes (from_node 2 (body.Promise ring 4 0 END 0 []))) ∷

@@ -14,7 +14,7 @@ use Rattle.frames.specs.declared.sent.Sent.{Sent}
 use Rattle.quorums.specs.Groups.{Has}
 use Rattle.vote_state.specs.State.{State}
 use Rattle.vote_journal.specs.Journal.{Journal}
-use Rattle.checkpoint.specs.Checks.{Checkpoint, Checks}
+use Rattle.checkpoint.specs.Checkpoints.{Checkpoint, Checkpoints}
 use Rattle.plain_model.specs.Replicas.{Replica}
 use Rattle.plain_model.specs.StateBytes.{whole_state}
 use Rattle.plain_model.specs.Tuples.{round_sizes, is_tuple_of}
@@ -59,12 +59,12 @@ pub record IsReadable (config : Config) (p : PartitionTable) (newest : Checkpoin
   pub state : whole_state p newest.state ≡ Ok replica
 
 -- an opening reads what stood, in an epoch more; it goes on only where a replica's checkpoint is readable
-pub record MayOpen (config : Config) (id : NodeId) (stood : Possible) (journal : Journal) (checks : Checks) : Type 0 where
+pub record MayOpen (config : Config) (id : NodeId) (stood : Possible) (journal : Journal) (checkpoints : Checkpoints) : Type 0 where
   pub node : IsNode config id
   pub epoch : journal.state.epoch ≡ stood.state.epoch + 1
   pub rings : journal.state.rings ≡ stood.state.rings
-  pub newest : checks.newest ≡ stood.newest
-  pub readable : (p : PartitionTable) (newest : Checkpoint) → partition_of config.partitions id ≡ Some p → checks.newest ≡ Some newest → IsReadable config p newest
+  pub newest : checkpoints.newest ≡ stood.newest
+  pub readable : (p : PartitionTable) (newest : Checkpoint) → partition_of config.partitions id ≡ Some p → checkpoints.newest ≡ Some newest → IsReadable config p newest
 
 -- an opening that failed has left what stood, or that in an epoch more
 pub record MayLeave (stood left : Possible) : Type 0 where
@@ -73,9 +73,9 @@ pub record MayLeave (stood left : Possible) : Type 0 where
   pub newest : left.newest ≡ stood.newest
 
 -- what happens to a node that is up does nothing there, and needs nothing
-abbrev pub MayOpenAt : Config → NodeId → Bool → Journal → Checks → Host → Type 0
-MayOpenAt config id after journal checks (Up view) = Unit {0}
-MayOpenAt config id after journal checks (Down durable pending) = MayOpen config id (chosen after durable pending) journal checks
+abbrev pub MayOpenAt : Config → NodeId → Bool → Journal → Checkpoints → Host → Type 0
+MayOpenAt config id after journal checkpoints (Up view) = Unit {0}
+MayOpenAt config id after journal checkpoints (Down durable pending) = MayOpen config id (chosen after durable pending) journal checkpoints
 
 abbrev pub MayLeaveAt : Bool → Possible → Host → Type 0
 MayLeaveAt after left (Up view) = Unit {0}
@@ -87,7 +87,7 @@ abbrev pub MayHappen : Config → World → Happening → Type 0
 MayHappen config w (Steps id event) = MayCome w id event
 MayHappen config w (Breaks id event cause) = MayCome w id event
 MayHappen config w (Crashes id cause) = Unit {0}
-MayHappen config w (Opens id after journal checks) = MayOpenAt config id after journal checks (w.hosts id.0)
+MayHappen config w (Opens id after journal checkpoints) = MayOpenAt config id after journal checkpoints (w.hosts id.0)
 MayHappen config w (Fails id after left cause) = IsNode config id × MayLeaveAt after left (w.hosts id.0)
 MayHappen config w (Asks id command) = IsClient config id × MayBeAsked command
 MayHappen config w (ClientTicks id) = IsClient config id

@@ -10,13 +10,13 @@ use Rattle.transcript.specs.declared.line.ShownState.{ShownState}
 use Rattle.transcript.specs.declared.line.ShownFrame.{ShownFrame}
 use Rattle.vote_state.specs.State.{State, nothing_kept}
 use Rattle.vote_journal.specs.Journal.{Journal}
-use Rattle.checkpoint.specs.Checks.{Checkpoint, Checks}
+use Rattle.checkpoint.specs.Checkpoints.{Checkpoint, Checkpoints}
 use Rattle.protocol.specs.Lines.{Line, Cause}
 use Rattle.protocol.specs.Lines as line
 use Rattle.protocol.specs.Node.{View, Event, Stepped, Work, state_shown}
 use Rattle.protocol.specs.Opening.{opened}
 use Rattle.protocol.specs.Step.{step}
-use Rattle.protocol.specs.Client.{ClientView, ClientDid, new_client, asks, client_ticks, client_takes}
+use Rattle.protocol.specs.Client.{ClientView, ClientEffects, new_client, asks, client_ticks, client_takes}
 
 -- ---- what there is
 
@@ -62,7 +62,7 @@ pub data Happening : Type 0 where
   -- a node goes down between two steps, or before the work of one, as where its journal is full
   Crashes : NodeId → Cause → Happening
   -- a node that is down opens on one of its two states, and goes on with this journal and these checkpoints
-  Opens : NodeId → (pending : Bool) → Journal → Checks → Happening
+  Opens : NodeId → (pending : Bool) → Journal → Checkpoints → Happening
   -- An opening on one of the two states fails, and the disk may stand for what it leaves too.
   Fails : NodeId → (pending : Bool) → (left : Possible) → Cause → Happening
   -- a client is told to ask a command, has a tick, or gets a frame
@@ -91,7 +91,7 @@ with_lines lines w = record w { lines = w.lines ++ lines }
 
 -- what the disk of a node that is up stands for
 abbrev pub possible_of : View → Possible
-possible_of view = record { state = view.journal.state; newest = view.checks.newest }
+possible_of view = record { state = view.journal.state; newest = view.checkpoints.newest }
 
 -- the chosen one of the two
 abbrev pub chosen : Bool → Possible → Possible → Possible
@@ -99,8 +99,8 @@ chosen false durable pending = durable
 chosen true durable pending = pending
 
 -- the node is up with its new view; its frames are sent and its lines printed
-abbrev pub goes_on : NodeId → List Line → Stepped → World → World
-goes_on id before did w = with_lines (before ++ did.lines) (with_frames did.frames (with_host id (Up did.view) w))
+abbrev pub after_step : NodeId → List Line → Stepped → World → World
+after_step id before made w = with_lines (before ++ made.lines) (with_frames made.frames (with_host id (Up made.view) w))
 
 -- the node is down
 abbrev pub goes_down : NodeId → Cause → Possible → Possible → World → World
@@ -113,7 +113,7 @@ abbrev pub with_read : NodeId → State → World → World
 with_read id state w = record w { read = w.read ++ (id, state) ∷ [] }
 
 abbrev pub stepped : NodeId → Stepped → World → World
-stepped id did w = with_work id did.work (goes_on id [] did w)
+stepped id made w = with_work id made.work (after_step id [] made w)
 
 abbrev pub steps_as : Config → NodeId → Event → Host → World → World
 steps_as config id event (Down durable pending) w = w
@@ -127,10 +127,10 @@ abbrev pub crashes_as : NodeId → Cause → Host → World → World
 crashes_as id cause (Down durable pending) w = w
 crashes_as id cause (Up view) w = goes_down id cause (possible_of view) (possible_of view) w
 
-abbrev pub opens_as : Config → NodeId → Journal → Checks → Host → World → World
-opens_as config id journal checks (Up view) w = w
-opens_as config id journal checks (Down durable pending) w =
-    with_read id journal.state (goes_on id (line.Up id journal.state.epoch ∷ []) (opened config id journal checks) w)
+abbrev pub opens_as : Config → NodeId → Journal → Checkpoints → Host → World → World
+opens_as config id journal checkpoints (Up view) w = w
+opens_as config id journal checkpoints (Down durable pending) w =
+    with_read id journal.state (after_step id (line.Up id journal.state.epoch ∷ []) (opened config id journal checkpoints) w)
 
 abbrev pub fails_as : NodeId → Bool → Possible → Cause → Host → World → World
 fails_as id after left cause (Up view) w = w
@@ -138,8 +138,8 @@ fails_as id after left cause (Down durable pending) w = goes_down id cause (chos
 
 -- ---- clients
 
-abbrev pub client_does : ClientId → ClientDid → World → World
-client_does id did w = with_lines did.lines (with_frames did.frames (with_client id did.client w))
+abbrev pub client_step : ClientId → ClientEffects → World → World
+client_step id made w = with_lines made.lines (with_frames made.frames (with_client id made.client w))
 
 -- ---- a happening
 
@@ -151,10 +151,10 @@ abbrev pub happens : Config → Happening → World → World
 happens config (Steps id event) w = steps_as config id event (w.hosts id.0) w
 happens config (Breaks id event cause) w = breaks_as config id event cause (w.hosts id.0) w
 happens config (Crashes id cause) w = crashes_as id cause (w.hosts id.0) w
-happens config (Opens id after journal checks) w = opens_as config id journal checks (w.hosts id.0) w
+happens config (Opens id after journal checkpoints) w = opens_as config id journal checkpoints (w.hosts id.0) w
 happens config (Fails id after left cause) w = fails_as id after left cause (w.hosts id.0) w
-happens config (Asks id command) w = client_does id (asks config (w.clients id.0) command) w
-happens config (ClientTicks id) w = client_does id (client_ticks config (w.clients id.0)) w
-happens config (ClientTakes id body) w = client_does id (client_takes config (w.clients id.0) body) w
+happens config (Asks id command) w = client_step id (asks config (w.clients id.0) command) w
+happens config (ClientTicks id) w = client_step id (client_ticks config (w.clients id.0)) w
+happens config (ClientTakes id body) w = client_step id (client_takes config (w.clients id.0) body) w
 happens config (Shows id) w = with_lines (line.State id (state_of_host (w.hosts id.0)) ∷ []) w
 happens config (Lists number shown) w = with_lines (line.Frame number shown ∷ []) w

@@ -4,7 +4,7 @@ use Rattle.std.specs.List.{AllByRecursion}
 use Rattle.std.proofs.lemmas.List.{append_assoc, append-nil}
 use Rattle.frames.specs.declared.sent.Sent.{Sent}
 use Rattle.protocol.specs.Lines.{Line}
-use Rattle.protocol.specs.Node.{Acting, RingPart, Service, Stage, prints, sends_all, with_stage}
+use Rattle.protocol.specs.Node.{StepSoFar, RingPart, Service, Stage, prints, sends_all, with_stage}
 use Rattle.beside_rings.specs.Beside.{IsQuietSent, IsNoLearn, Follows, SameBut, AreSame, Untouched}
 
 pub mapped : {T : Type 0} (P Q : T → Type 0) → ((x : T) → P x → Q x) → (xs : List T) → AllByRecursion P xs → AllByRecursion Q xs
@@ -56,7 +56,7 @@ AreSame-trans (p ∷ ps) (q ∷ qs) (r ∷ rs) x y = (SameBut-trans x.0 y.0, Are
 
 -- ---- steps
 
-pub Untouched-refl : (a : Acting) → Untouched a a
+pub Untouched-refl : (a : StepSoFar) → Untouched a a
 Untouched-refl a = record {
   id = refl;
   journal = refl;
@@ -67,7 +67,7 @@ Untouched-refl a = record {
   lines = Follows-refl IsNoLearn a.lines;
 }
 
-pub Untouched-trans : {a b c : Acting} → Untouched a b → Untouched b c → Untouched a c
+pub Untouched-trans : {a b c : StepSoFar} → Untouched a b → Untouched b c → Untouched a c
 Untouched-trans {a} {b} {c} x y = record {
   id = y.id ∙ x.id;
   journal = y.journal ∙ x.journal;
@@ -78,7 +78,7 @@ Untouched-trans {a} {b} {c} x y = record {
   lines = Follows-trans IsNoLearn x.lines y.lines;
 }
 
-pub untouched_prints : (lines : List Line) → AllByRecursion IsNoLearn lines → (a : Acting) → Untouched a (prints lines a)
+pub untouched_prints : (lines : List Line) → AllByRecursion IsNoLearn lines → (a : StepSoFar) → Untouched a (prints lines a)
 untouched_prints lines quiet a = record {
   id = refl;
   journal = refl;
@@ -89,7 +89,7 @@ untouched_prints lines quiet a = record {
   lines = Follows-more IsNoLearn a.lines lines quiet;
 }
 
-pub untouched_sends : (frames : List Sent) → AllByRecursion IsQuietSent frames → (a : Acting) → Untouched a (sends_all frames a)
+pub untouched_sends : (frames : List Sent) → AllByRecursion IsQuietSent frames → (a : StepSoFar) → Untouched a (sends_all frames a)
 untouched_sends frames quiet a = record {
   id = refl;
   journal = refl;
@@ -100,7 +100,7 @@ untouched_sends frames quiet a = record {
   lines = Follows-refl IsNoLearn a.lines;
 }
 
-pub untouched_stage : (service : Service) (stage : Stage) (a : Acting) → Untouched a (with_stage service stage a)
+pub untouched_stage : (service : Service) (stage : Stage) (a : StepSoFar) → Untouched a (with_stage service stage a)
 untouched_stage service stage a = record {
   id = refl;
   journal = refl;

@@ -7,7 +7,7 @@ use Rattle.frames.specs.declared.body.Body.TheVariants as body
 use Rattle.frames.specs.declared.sent.Sent.{Sent}
 use Rattle.protocol.specs.Lines.{Line, Learn}
 use Rattle.vote_state.specs.declared.change.Change.{Change}
-use Rattle.protocol.specs.Node.{Acting, RingPart, Work, Records}
+use Rattle.protocol.specs.Node.{StepSoFar, RingPart, Work, Records}
 
 -- ---- frames and lines that say nothing of what a ring has promised, voted or decided
 
@@ -56,7 +56,7 @@ AreSame (q ∷ qs) [] = ⊥
 AreSame (q ∷ qs) (p ∷ ps) = SameBut q p × AreSame qs ps
 
 -- A step has gone on from `old` to `new` without a rule of a ring.
-pub record Untouched (old new : Acting) : Type 0 where
+pub record Untouched (old new : StepSoFar) : Type 0 where
   pub id : new.view.id ≡ old.view.id
   pub journal : new.view.journal ≡ old.view.journal
   pub parts : AreSame old.view.parts new.view.parts

@@ -6,7 +6,7 @@ use Rattle.mrp_types.specs.declared.id.RingId.{RingId}
 use Rattle.plain_model.specs.Tuples.{is_at_or_after, tuple_before, is_valid_tuple, has_rings, is_tuple_of}
 use Rattle.plain_model.proofs.TupleOrder.{split_and, both_true, same_number}
 use Rattle.plain_model.proofs.TupleChain.{one_reaches, later_rings, by_entries, by_parts_of_list}
-use Rattle.checkpoint.specs.Checks.{is_same_tuple, is_after}
+use Rattle.checkpoint.specs.Checkpoints.{is_same_tuple, is_after}
 
 one_entry : (i j : ℕ) (p q : Bool) → p ≡ not q → (nat_lt i j || p) ≡ not (nat_le j i && q)
 one_entry i j p q same = by (nat_lt i j) (nat_le j i) refl refl (cases_lt i j)

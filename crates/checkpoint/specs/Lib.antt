@@ -1,3 +1,3 @@
 pub mod Spelling
-pub mod Checks
+pub mod Checkpoints
 pub mod Rows

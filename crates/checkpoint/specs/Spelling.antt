@@ -10,10 +10,10 @@ use Rattle.gate_area.specs.Standing.{letter_of}
 abbrev pub front_bytes : ℕ → List ℕ
 front_bytes generation = 0x4d ∷ 0x52 ∷ letter_of Check ∷ 0 ∷ 0 ∷ 0 ∷ 1 ∷ u64_bytes generation
 
--- a checkpoint, from byte 16 of its area on: its tuple, how many bytes its state has, and these bytes
+-- a checkpoint: its tuple, how many bytes its state has, and these bytes
 abbrev pub checkpoint_bytes : List (RingId × ℕ) → List ℕ → List ℕ
 checkpoint_bytes tuple state = tuple_bytes tuple ++ (u64_bytes (length state) ++ state)
 
--- what an area has behind its first byte, the gate
+-- what an area has behind its first byte, the gate: the front, the bytes 0 and 2 of format 2, and the checkpoint
 abbrev pub checkpoint_body : ℕ → List (RingId × ℕ) → List ℕ → List ℕ
-checkpoint_body generation tuple state = front_bytes generation ++ checkpoint_bytes tuple state
+checkpoint_body generation tuple state = front_bytes generation ++ 0 ∷ 2 ∷ checkpoint_bytes tuple state

@@ -3,7 +3,7 @@
 ghost use Rattle.std.specs.Prelude.{◌≡◌, ◌↔◌, ℕ, List, true};
 ghost use Rattle.mrp_types.specs.declared.id.RingId.{RingId};
 ghost use Rattle.plain_model.specs.Tuples.{is_tuple_of, tuple_before};
-ghost use Rattle.checkpoint.specs.Checks.{is_same_tuple, is_after};
+ghost use Rattle.checkpoint.specs.Checkpoints.{is_same_tuple, is_after};
 
 /// Of two valid tuples of the same rings the second is after the first exactly where the first is before it in the one order of
 /// tuples; and two tuples that are told to be the same are one, whatever they are.

@@ -28,13 +28,13 @@ entry_parts entry = (entry.client.0, (entry.seq, entry.command))
 pub entry_law : Field Entry entry_at entry_bytes IsEntry
 unfolding entry_at
 entry_law =
-    shown_law (ℕ × (ℕ × List ℕ)) Entry entry_of entry_parts (both byte_at (both (within 1 (2 ^ 63 - 1) (number_at w64)) (string_at 0 4096))) entry_text entry_bytes
-    (λ v. Unit {0} × (IsNumber v.1.0 × HasLength 0 4096 v.1.1)) IsEntry
-    (both_law ℕ (ℕ × List ℕ) byte_at (both (within 1 (2 ^ 63 - 1) (number_at w64)) (string_at 0 4096)) one_byte numbered_text (λ n. Unit {0}) (λ v. IsNumber v.0 × HasLength 0 4096 v.1)
+    shown_law (ℕ × (ℕ × List ℕ)) Entry entry_of entry_parts (both byte_at (both (within 1 (2 ^ 63 - 1) (number_at w64)) (string_at 0 4608))) entry_text entry_bytes
+    (λ v. Unit {0} × (IsNumber v.1.0 × HasLength 0 4608 v.1.1)) IsEntry
+    (both_law ℕ (ℕ × List ℕ) byte_at (both (within 1 (2 ^ 63 - 1) (number_at w64)) (string_at 0 4608)) one_byte numbered_text (λ n. Unit {0}) (λ v. IsNumber v.0 × HasLength 0 4608 v.1)
     any_byte_law
-    (both_law ℕ (List ℕ) (within 1 (2 ^ 63 - 1) (number_at w64)) (string_at 0 4096) u64_bytes string16 IsNumber (HasLength 0 4096)
+    (both_law ℕ (List ℕ) (within 1 (2 ^ 63 - 1) (number_at w64)) (string_at 0 4608) u64_bytes string16 IsNumber (HasLength 0 4608)
     (within_law 1 (2 ^ 63 - 1) (number_at w64) u64_bytes (λ n. n < 2 ^ 64) (number_law w64 (2 ^ 64) u64_bytes wide64))
-    (string_law 0 4096 (lit< tt))))
+    (string_law 0 4608 (lit< tt))))
     (λ v. refl)
     (λ v is. record { asked = is.1.0.1; numbered = omega (arith, is.1.0.2); short = is.1.1.1 })
     (λ entry. refl)

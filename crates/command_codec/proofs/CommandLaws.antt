@@ -11,14 +11,14 @@ use Rattle.std.proofs.lemmas.List.{nil_from_length}
 use Rattle.std.proofs.lemmas.List.Concat.{flat_map-cons}
 use Rattle.mrp_types.specs.declared.id.LogId.{LogId}
 use Rattle.command_codec.specs.declared.command.Command.{Command}
-use Rattle.command_codec.specs.declared.command.Command.TheVariants.{Append, Multi, ReadLog, TrimLog, Get, Scan, Update, Insert, Delete}
+use Rattle.command_codec.specs.declared.command.Command.TheVariants.{Append, Multi, ReadLog, TrimLog, Get, Scan, Update, Insert, Delete, Swap}
 use Rattle.command_codec.specs.declared.fault.CodecFault.{CodecFault}
 use Rattle.command_codec.specs.declared.fault.CodecFault.TheVariants.{BadKind}
 use Rattle.command_codec.specs.Fields.{u64_bytes, string16}
 use Rattle.command_codec.specs.Spelling.{command_bytes}
 use Rattle.command_codec.specs.Valid.{IsCommand, IsKey, HasNumbers, rises_from}
 use Rattle.command_codec.specs.Reader.{Spot, byte_at, number_at, within, string_at, string_that, follow, both, Says}
-use Rattle.command_codec.specs.Grammar.{log_from, after_log, logs_at, key_at, stored_at, ends, append_at, multi_at, read_log_at, trim_log_at, get_at, scan_at, update_at, insert_at, delete_at, command_of_kind, command_at, command_of}
+use Rattle.command_codec.specs.Grammar.{log_from, after_log, logs_at, key_at, stored_at, ends, append_at, multi_at, read_log_at, trim_log_at, get_at, scan_at, update_at, insert_at, delete_at, swap_at, command_of_kind, command_at, command_of}
 use Rattle.command_codec.proofs.ReaderLaws.{AreBytes, Took, Again, Field, HasLength, one_byte, byte_law, number_law, wide64, within_law, string_law, string_that_law, rest_are}
 use Rattle.command_codec.proofs.Combined.{follow_law, both_law, shown_law, kind_was, kind_again, chosen, AllInChain, counted_law, counted_text, whole_was, whole_again}
 
@@ -140,6 +140,17 @@ two_text v = string16 v.0 ++ string16 v.1
 stored_fields : Field (List ℕ × List ℕ) (both key_at stored_at) two_text (λ v. IsKey v.0 × HasLength 0 2048 v.1)
 stored_fields = both_law (List ℕ) (List ℕ) key_at stored_at string16 string16 IsKey (HasLength 0 2048) key_law stored_law
 
+abbrev pub swap_text : List ℕ × (List ℕ × List ℕ) → List ℕ
+swap_text v = string16 v.0 ++ two_text v.1
+
+abbrev pub IsSwapped : List ℕ × (List ℕ × List ℕ) → Type 0
+IsSwapped v = IsKey v.0 × (HasLength 0 2048 v.1.0 × HasLength 0 2048 v.1.1)
+
+swap_fields : Field (List ℕ × (List ℕ × List ℕ)) (both key_at (both stored_at stored_at)) swap_text IsSwapped
+swap_fields =
+    both_law (List ℕ) (List ℕ × List ℕ) key_at (both stored_at stored_at) string16 two_text IsKey (λ v. HasLength 0 2048 v.0 × HasLength 0 2048 v.1) key_law
+    (both_law (List ℕ) (List ℕ) stored_at stored_at string16 string16 (HasLength 0 2048) (HasLength 0 2048) stored_law stored_law)
+
 scan_fields : Field (List ℕ × List ℕ) (follow (string_at 0 256) (λ from. string_that 0 256 (ends from))) two_text (λ v. HasLength 0 256 v.0 × (HasLength 0 256 v.1 × IsTrue (ends v.0 v.1)))
 scan_fields =
     follow_law (List ℕ) (List ℕ) (string_at 0 256) (λ from. string_that 0 256 (ends from)) string16 string16 (HasLength 0 256) (λ from to. HasLength 0 256 to × IsTrue (ends from to))
@@ -157,7 +168,7 @@ pub kind_is : (a b : ℕ) → (a == b) ≡ true → a ≡ b
 kind_is a b h = eqb-true a b h
 
 of_kind_was : (at behind kind : ℕ) (rest : List ℕ) (x : Command × Spot) → AreBytes rest → command_of_kind at kind (record { at = behind; rest = rest }) ≡ Ok x → WasRead at (kind ∷ rest) x
-unfolding command_of_kind append_at multi_at read_log_at trim_log_at get_at scan_at update_at insert_at delete_at
+unfolding command_of_kind append_at multi_at read_log_at trim_log_at get_at scan_at update_at insert_at delete_at swap_at
 of_kind_was at behind kind rest x are h =
     chosen Command (kind == 1) _ _ x (WasRead at (kind ∷ rest) x) h
     (λ is r. kind_was (LogId × List ℕ) Command (λ v. Append v.0 v.1) (both (log_from 0) stored_at) log_value_text command_bytes (λ v. IsLogFrom 0 v.0 × HasLength 0 2048 v.1) IsWhole append_fields 1
@@ -187,7 +198,10 @@ of_kind_was at behind kind rest x are h =
     (λ h. chosen Command (kind == 9) _ _ x (WasRead at (kind ∷ rest) x) h
     (λ is r. kind_was (List ℕ) Command Delete key_at string16 command_bytes IsKey IsWhole key_law 9
     (λ v ok. refl) (λ v ok. (ok, tt)) kind (kind_is kind 9 is) at behind rest x are r)
-    (λ h. absurd (no_kind at x h))))))))))
+    (λ h. chosen Command (kind == 10) _ _ x (WasRead at (kind ∷ rest) x) h
+    (λ is r. kind_was (List ℕ × (List ℕ × List ℕ)) Command (λ v. Swap v.0 v.1.0 v.1.1) (both key_at (both stored_at stored_at)) swap_text command_bytes IsSwapped IsWhole swap_fields 10
+    (λ v ok. refl) (λ v ok. ((ok.0, ok.1.0.1, ok.1.1.1), tt)) kind (kind_is kind 10 is) at behind rest x are r)
+    (λ h. absurd (no_kind at x h)))))))))))
   where
     no_kind : (at : ℕ) (x : Command × Spot) → Err (BadKind at) ≡ Ok x → ⊥
     no_kind at x h = cc
@@ -201,7 +215,7 @@ command_was at [] x are h = absurd (no_byte at x h)
 command_was at (kind ∷ rest) x are h = of_kind_was at (at + 1) kind rest x (rest_are kind rest are) h
 
 command_again : (command : Command) (at : ℕ) (tail : List ℕ) → IsWhole command → Again Command command_at command_bytes command at tail
-unfolding command_at command_of_kind append_at multi_at read_log_at trim_log_at get_at scan_at update_at insert_at delete_at
+unfolding command_at command_of_kind append_at multi_at read_log_at trim_log_at get_at scan_at update_at insert_at delete_at swap_at
 command_again (Append log value) at tail is =
     kind_again (LogId × List ℕ) Command (λ v. Append v.0 v.1) (both (log_from 0) stored_at) log_value_text (λ v. IsLogFrom 0 v.0 × HasLength 0 2048 v.1) append_fields (log, value) (at + 1) tail
     ((omega arith, is.0.0), (omega arith, is.0.1))
@@ -227,6 +241,9 @@ command_again (Insert key value) at tail is =
     kind_again (List ℕ × List ℕ) Command (λ v. Insert v.0 v.1) (both key_at stored_at) two_text (λ v. IsKey v.0 × HasLength 0 2048 v.1) stored_fields (key, value) (at + 1) tail
     (is.0.0, (omega arith, is.0.1))
 command_again (Delete key) at tail is = kind_again (List ℕ) Command Delete key_at string16 IsKey key_law key (at + 1) tail is.0
+command_again (Swap key old new) at tail is =
+    kind_again (List ℕ × (List ℕ × List ℕ)) Command (λ v. Swap v.0 v.1.0 v.1.1) (both key_at (both stored_at stored_at)) swap_text IsSwapped swap_fields (key, (old, new)) (at + 1) tail
+    (is.0.0, ((omega arith, is.0.1), (omega arith, is.0.2)))
 
 pub command_law : Field Command command_at command_bytes IsWhole
 command_law = record {

@@ -4,7 +4,7 @@ use Rattle.std.specs.List.{flat_map, AllByRecursion}
 use Rattle.std.proofs.lemmas.List.Concat.{flat_map-cons}
 use Rattle.command_codec.specs.declared.reply.TableEntry.{TableEntry}
 use Rattle.command_codec.specs.declared.reply.Reply.{Reply}
-use Rattle.command_codec.specs.declared.reply.Reply.TheVariants.{Positions, Value, Trimmed, Absent, Beyond, Exists, Done, Entries, Limit}
+use Rattle.command_codec.specs.declared.reply.Reply.TheVariants.{Positions, Value, Trimmed, Absent, Beyond, Exists, Done, Entries, Limit, Differs}
 use Rattle.command_codec.specs.Replies.{IsReply, IsPosition, IsTableEntry, keys_rise, is_other, first_other, positions_of, entries_of, has_more, until_more, starts_with_positions, positions_reply, entries_reply, or_else, joined, AreParts}
 use Rattle.command_codec.specs.Grammar.{comes_after}
 
@@ -22,6 +22,7 @@ each_position Exists is = tt
 each_position Done is = tt
 each_position (Entries more entries) is = tt
 each_position Limit is = tt
+each_position (Differs value) is = tt
 
 each_entry : (part : Reply) → IsReply part → AllByRecursion IsTableEntry (entries_of part)
 each_entry (Positions positions) is = tt
@@ -33,6 +34,7 @@ each_entry Exists is = tt
 each_entry Done is = tt
 each_entry (Entries more entries) is = is.each
 each_entry Limit is = tt
+each_entry (Differs value) is = tt
 
 all_positions : (parts : List Reply) → AllByRecursion IsReply parts → AllByRecursion IsPosition (flat_map positions_of parts)
 all_positions [] each = tt

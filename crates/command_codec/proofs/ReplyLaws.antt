@@ -6,7 +6,7 @@ use Rattle.mrp_types.specs.declared.id.LogId.{LogId}
 use Rattle.command_codec.specs.declared.reply.LogPosition.{LogPosition}
 use Rattle.command_codec.specs.declared.reply.TableEntry.{TableEntry}
 use Rattle.command_codec.specs.declared.reply.Reply.{Reply}
-use Rattle.command_codec.specs.declared.reply.Reply.TheVariants.{Positions, Value, Trimmed, Absent, Beyond, Exists, Done, Entries, Limit}
+use Rattle.command_codec.specs.declared.reply.Reply.TheVariants.{Positions, Value, Trimmed, Absent, Beyond, Exists, Done, Entries, Limit, Differs}
 use Rattle.command_codec.specs.declared.fault.CodecFault.{CodecFault}
 use Rattle.command_codec.specs.declared.fault.CodecFault.TheVariants.{BadKind}
 use Rattle.command_codec.specs.Fields.{u16_bytes, u64_bytes, string16}
@@ -145,7 +145,9 @@ of_kind_was at behind kind rest x are h =
     (λ v ok. (record { few = omega (arith, ok.1.0); each = each_of_later [] v.1 ok.1.1; rising = rising_of_later [] v.1 ok.1.1 }, tt)) kind (kind_is kind 8 is) at behind rest x are r)
     (λ h. chosen Reply (kind == 9) _ _ x (WasReply at (kind ∷ rest) x) h
     (λ is r. alone_was Reply Limit reply_bytes IsWhole 9 refl (tt, tt) kind (kind_is kind 9 is) at behind rest x are r)
-    (λ h. absurd (no_kind at x h))))))))))
+    (λ h. chosen Reply (kind == 10) _ _ x (WasReply at (kind ∷ rest) x) h
+    (λ is r. kind_was (List ℕ) Reply Differs stored_at string16 reply_bytes (HasLength 0 2048) IsWhole stored_law 10 (λ v ok. refl) (λ v ok. (ok.1, tt)) kind (kind_is kind 10 is) at behind rest x are r)
+    (λ h. absurd (no_kind at x h)))))))))))
   where
     no_kind : (at : ℕ) (x : Reply × Spot) → Err (BadKind at) ≡ Ok x → ⊥
     no_kind at x h = cc
@@ -182,6 +184,7 @@ reply_again Done at tail is = (at + 1, refl)
 reply_again (Entries true entries) at tail is = again_entries 1 entries (at + 1) tail (omega arith) is.0
 reply_again (Entries false entries) at tail is = again_entries 0 entries (at + 1) tail (omega arith) is.0
 reply_again Limit at tail is = (at + 1, refl)
+reply_again (Differs value) at tail is = kind_again (List ℕ) Reply Differs stored_at string16 (HasLength 0 2048) stored_law value (at + 1) tail (omega arith, is.0)
 
 pub reply_law : Field Reply reply_at reply_bytes IsWhole
 reply_law = record {

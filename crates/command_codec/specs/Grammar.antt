@@ -6,7 +6,7 @@ use Rattle.std.specs.Cmp.Lexicographic.{slice_cmp}
 use Rattle.mrp_types.specs.declared.id.LogId.{LogId}
 use Rattle.mrp_types.specs.declared.value.Entry.{Entry}
 use Rattle.command_codec.specs.declared.command.Command.{Command}
-use Rattle.command_codec.specs.declared.command.Command.TheVariants.{Append, Multi, ReadLog, TrimLog, Get, Scan, Update, Insert, Delete}
+use Rattle.command_codec.specs.declared.command.Command.TheVariants.{Append, Multi, ReadLog, TrimLog, Get, Scan, Update, Insert, Delete, Swap}
 use Rattle.command_codec.specs.declared.reply.LogPosition.{LogPosition}
 use Rattle.command_codec.specs.declared.reply.TableEntry.{TableEntry}
 use Rattle.command_codec.specs.declared.reply.Reply.{Reply}
@@ -67,6 +67,9 @@ insert_at = shown (λ x. Insert x.0 x.1) (both key_at stored_at)
 unfoldable pub delete_at : Reader Command
 delete_at = shown Delete key_at
 
+unfoldable pub swap_at : Reader Command
+swap_at = shown (λ x. Swap x.0 x.1.0 x.1.1) (both key_at (both stored_at stored_at))
+
 -- what follows a kind that stands at the given position
 unfoldable pub command_of_kind : ℕ → ℕ → Reader Command
 command_of_kind at kind spot =
@@ -79,6 +82,7 @@ command_of_kind at kind spot =
     else if kind == 7 then update_at spot
     else if kind == 8 then insert_at spot
     else if kind == 9 then delete_at spot
+    else if kind == 10 then swap_at spot
     else Err (BadKind at)
 
 unfoldable pub command_at : Reader Command
@@ -96,7 +100,7 @@ abbrev pub entry_of : ℕ × (ℕ × List ℕ) → Entry
 entry_of x = record { client = record { 0 = x.0 }; seq = x.1.0; command = x.1.1 }
 
 unfoldable pub entry_at : Reader Entry
-entry_at = shown entry_of (both byte_at (both (within 1 (2 ^ 63 - 1) (number_at w64)) (string_at 0 4096)))
+entry_at = shown entry_of (both byte_at (both (within 1 (2 ^ 63 - 1) (number_at w64)) (string_at 0 4608)))
 
 -- 1 to 65,535 entries
 abbrev pub entries_at : Reader (List Entry)
@@ -144,6 +148,7 @@ reply_of_kind at kind spot =
     else if kind == 7 then nothing replies.Done spot
     else if kind == 8 then entries_reply_at spot
     else if kind == 9 then nothing replies.Limit spot
+    else if kind == 10 then shown replies.Differs stored_at spot
     else Err (BadKind at)
 
 unfoldable pub reply_at : Reader Reply

@@ -4,7 +4,7 @@ use Rattle.std.specs.List.{flat_map, AllByRecursion}
 use Rattle.command_codec.specs.declared.reply.LogPosition.{LogPosition}
 use Rattle.command_codec.specs.declared.reply.TableEntry.{TableEntry}
 use Rattle.command_codec.specs.declared.reply.Reply.{Reply}
-use Rattle.command_codec.specs.declared.reply.Reply.TheVariants.{Positions, Value, Trimmed, Absent, Beyond, Exists, Done, Entries, Limit}
+use Rattle.command_codec.specs.declared.reply.Reply.TheVariants.{Positions, Value, Trimmed, Absent, Beyond, Exists, Done, Entries, Limit, Differs}
 use Rattle.command_codec.specs.Fields.{u16_bytes, u64_bytes, string16}
 use Rattle.command_codec.specs.Valid.{IsKey, IsStored}
 use Rattle.command_codec.specs.Grammar.{comes_after}
@@ -32,6 +32,7 @@ reply_bytes Exists = 6 ∷ []
 reply_bytes Done = 7 ∷ []
 reply_bytes (Entries more entries) = 8 ∷ flag more ∷ u16_bytes (length entries) ++ flat_map table_entry_bytes entries
 reply_bytes Limit = 9 ∷ []
+reply_bytes (Differs value) = 10 ∷ string16 value
 
 -- ---- which replies have a spelling
 
@@ -61,6 +62,7 @@ abbrev pub IsReply : Reply → Type 0
 IsReply (Positions positions) = ArePositions positions
 IsReply (Value value) = IsStored value
 IsReply (Entries more entries) = AreTableEntries entries
+IsReply (Differs value) = IsStored value
 IsReply other = Unit {0}
 
 -- ---- numbers are below 2 ^ 64, as those of the code are

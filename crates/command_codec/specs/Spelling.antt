@@ -7,7 +7,7 @@ use Rattle.mrp_types.specs.declared.value.Value.{Value}
 use Rattle.mrp_types.specs.declared.value.Value.TheVariants.{Skip, Batch}
 use Rattle.mrp_types.specs.Entries.{IsEntry}
 use Rattle.command_codec.specs.declared.command.Command.{Command}
-use Rattle.command_codec.specs.declared.command.Command.TheVariants.{Append, Multi, ReadLog, TrimLog, Get, Scan, Update, Insert, Delete}
+use Rattle.command_codec.specs.declared.command.Command.TheVariants.{Append, Multi, ReadLog, TrimLog, Get, Scan, Update, Insert, Delete, Swap}
 use Rattle.command_codec.specs.Fields.{u16_bytes, u64_bytes, string16}
 
 -- a kind, and the fields in order
@@ -21,6 +21,7 @@ command_bytes (Scan from to) = 6 ∷ string16 from ++ string16 to
 command_bytes (Update key value) = 7 ∷ string16 key ++ string16 value
 command_bytes (Insert key value) = 8 ∷ string16 key ++ string16 value
 command_bytes (Delete key) = 9 ∷ string16 key
+command_bytes (Swap key old new) = 10 ∷ string16 key ++ (string16 old ++ string16 new)
 
 -- the client, its number, and the command
 abbrev pub entry_bytes : Entry → List ℕ

@@ -5,7 +5,7 @@ use Rattle.std.specs.Cmp.Lexicographic.{slice_cmp}
 use Rattle.std.specs.declared.cmp.Ordering.TheVariants.{Less}
 use Rattle.mrp_types.specs.declared.id.LogId.{LogId}
 use Rattle.command_codec.specs.declared.command.Command.{Command}
-use Rattle.command_codec.specs.declared.command.Command.TheVariants.{Append, Multi, ReadLog, TrimLog, Get, Scan, Update, Insert, Delete}
+use Rattle.command_codec.specs.declared.command.Command.TheVariants.{Append, Multi, ReadLog, TrimLog, Get, Scan, Update, Insert, Delete, Swap}
 
 -- 1 to 256 bytes
 abbrev pub IsKey : List ℕ → Type 0
@@ -38,6 +38,7 @@ IsCommand (Scan from to) = IsRange from to
 IsCommand (Update key value) = IsKey key × IsStored value
 IsCommand (Insert key value) = IsKey key × IsStored value
 IsCommand (Delete key) = IsKey key
+IsCommand (Swap key old new) = IsKey key × IsStored old × IsStored new
 
 -- numbers are below 2 ^ 64, as those of the code are
 abbrev pub HasNumbers : Command → Type 0

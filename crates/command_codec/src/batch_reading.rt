@@ -11,11 +11,6 @@ use crate::{CodecFault, Entries};
 use mrp_types::{ClientId, Entry};
 use std::alloc::Global;
 
-// The greatest number of a client's command, and the greatest length of a command in bytes.
-const LAST_SEQ: u64 = (1 << 63) - 1;
-
-const COMMAND: usize = 4_096;
-
 /// The entries of the batch that the bytes spell, all of the bytes. How many bytes a batch may have is for the
 /// caller to ask, and the commands aren't looked into.
 pub fn read_batch(alloc: Global, bytes: &[u8]) -> Result<Entries, CodecFault>
@@ -71,8 +66,8 @@ fn read_entry(alloc: Global, fields: &mut Cursor<'_>) -> Result<Entry, CodecFaul
     ensures { Reads (λ e. e) (entry_at fields.old) result fields.new }
 {
     let client = ClientId(fields.byte()?);
-    let seq = fields.u64_within(1, LAST_SEQ)?;
-    let command = fields.octets(alloc, 0, COMMAND)?;
+    let seq = fields.u64_within(1, Entry::LAST_SEQ)?;
+    let command = fields.octets(alloc, 0, Entry::COMMAND)?;
     Ok(Entry {
         client,
         seq,

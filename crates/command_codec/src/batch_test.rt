@@ -6,11 +6,7 @@ ghost use Rattle.command_codec.specs.Grammar.{batch_at, entry_at};
 ghost use Rattle.command_codec.specs.Parts.{spells_batch};
 
 use crate::reading::Cursor;
-
-// The greatest number of a client's command, and the greatest length of a command in bytes.
-const LAST_SEQ: u64 = (1 << 63) - 1;
-
-const COMMAND: usize = 4_096;
+use mrp_types::Entry;
 
 /// Whether the bytes are a batch of entries, all of the bytes. It takes no memory.
 pub fn is_batch(bytes: &[u8]) -> bool
@@ -57,10 +53,10 @@ fn pass_entry(fields: &mut Cursor<'_>) -> bool
     let Ok(_) = fields.byte() else {
         return false;
     };
-    let Ok(_) = fields.u64_within(1, LAST_SEQ) else {
+    let Ok(_) = fields.u64_within(1, Entry::LAST_SEQ) else {
         return false;
     };
-    let Ok(_) = fields.string(0, COMMAND) else {
+    let Ok(_) = fields.string(0, Entry::COMMAND) else {
         return false;
     };
     true

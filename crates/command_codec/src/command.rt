@@ -1,4 +1,4 @@
-//! The nine commands of the two services.
+//! The ten commands of the two services.
 
 ghost use Rattle.std.specs.Prelude.{◌≡◌, ◌↔◌, ◌≤◌, ◌<◌, ◌^◌, ◌++◌, ◌∷◌, length, map, IfOk, OnOk, IsTrue};
 ghost use Rattle.std.specs.Ordering.{nat_cmp};
@@ -9,40 +9,64 @@ ghost use Rattle.command_codec.specs.Spelling.{command_bytes};
 ghost use Rattle.command_codec.specs.Valid.{IsCommand, IsKey, AreLogs, IsRange, rises_from};
 
 use crate::Logs;
+use crate::limits::{KEY, LOGS, STORED};
 use crate::writing::{put_string16, put_u8, put_u64};
 use mrp_types::{LogId, Memory, Octets};
 use std::alloc::Global;
 use std::cmp::Ordering;
 
-// The greatest lengths of a key and of a stored value, in bytes.
-const KEY: usize = 256;
-
-const STORED: usize = 2_048;
-
-// Logs have numbers below this, and a command names at most so many.
-const LOGS: u8 = 64;
-
 /// What a client asks of the logs or of the map.
 #[derive(Debug, Drop)]
 pub enum Command {
     /// Adds a value to a log.
-    Append { log: LogId, value: Octets },
+    Append {
+        log: LogId,
+        value: Octets,
+    },
     /// Adds a value to several logs at once.
-    Multi { logs: Logs, value: Octets },
+    Multi {
+        logs: Logs,
+        value: Octets,
+    },
     /// Reads the value at a position of a log.
-    ReadLog { log: LogId, position: u64 },
+    ReadLog {
+        log: LogId,
+        position: u64,
+    },
     /// Forgets the values of a log below a position.
-    TrimLog { log: LogId, position: u64 },
+    TrimLog {
+        log: LogId,
+        position: u64,
+    },
     /// Reads the value of a key.
-    Get { key: Octets },
+    Get {
+        key: Octets,
+    },
     /// Reads the keys from `from` on and below `to`; an empty `to` is no end.
-    Scan { from: Octets, to: Octets },
+    Scan {
+        from: Octets,
+        to: Octets,
+    },
     /// Sets the value of a key that is there.
-    Update { key: Octets, value: Octets },
+    Update {
+        key: Octets,
+        value: Octets,
+    },
     /// Sets the value of a key that isn't there.
-    Insert { key: Octets, value: Octets },
+    Insert {
+        key: Octets,
+        value: Octets,
+    },
     /// Removes a key.
-    Delete { key: Octets },
+    Delete {
+        key: Octets,
+    },
+    /// Sets the value of a key that has the value `old`.
+    Swap {
+        key: Octets,
+        old: Octets,
+        new: Octets,
+    },
 }
 
 impl Command {
@@ -61,6 +85,9 @@ impl Command {
             Command::Update { key, value } => is_key(key) && value.len() <= STORED,
             Command::Insert { key, value } => is_key(key) && value.len() <= STORED,
             Command::Delete { key } => is_key(key),
+            Command::Swap { key, old, new } => {
+                is_key(key) && old.len() <= STORED && new.len() <= STORED
+            }
         }
     }
 }
@@ -139,6 +166,10 @@ fn put_command(out: &mut Octets, command: &Command) -> Result<(), Memory>
         Command::Delete { key } => {
             put_u8(out, 9)?;
             put_string16(out, key.bytes())
+        }
+        Command::Swap { key, old, new } => {
+            put_two(out, 10, key, old)?;
+            put_string16(out, new.bytes())
         }
     }
 }

@@ -3,24 +3,15 @@
 ghost use Rattle.std.specs.Prelude.{◌≡◌, ◌<◌, IfOk, Ok};
 ghost use Rattle.command_codec.specs.declared.command.Command.{Command};
 ghost use Rattle.command_codec.specs.Reader.{Reads, Says, chain, string_that};
-ghost use Rattle.command_codec.specs.Grammar.{command_of, command_at, command_of_kind, append_at, multi_at, read_log_at, trim_log_at, get_at, scan_at, update_at, insert_at, delete_at, log_from, after_log, logs_at, ends};
+ghost use Rattle.command_codec.specs.Grammar.{command_of, command_at, command_of_kind, append_at, multi_at, read_log_at, trim_log_at, get_at, scan_at, update_at, insert_at, delete_at, swap_at, log_from, after_log, logs_at, ends};
 ghost use Rattle.command_codec.specs.Spelling.{command_bytes};
 ghost use Rattle.command_codec.specs.Valid.{IsCommand, HasNumbers};
 
+use crate::limits::{KEY, LAST_LOG, LOGS, STORED};
 use crate::reading::Cursor;
 use crate::{CodecFault, Command, Logs, order};
 use mrp_types::{LogId, Octets};
 use std::alloc::Global;
-
-// The greatest lengths of a key and of a stored value, in bytes.
-const KEY: usize = 256;
-
-const STORED: usize = 2_048;
-
-// The greatest number of a log, and the most logs that a command names.
-const LAST_LOG: u8 = 63;
-
-const LOGS: u8 = 64;
 
 /// The command that the bytes spell, all of the bytes.
 pub fn read_command(alloc: Global, bytes: &[u8]) -> Result<Command, CodecFault>
@@ -70,6 +61,7 @@ fn read_of_kind(
         7 => read_update(alloc, fields),
         8 => read_insert(alloc, fields),
         9 => read_delete(alloc, fields),
+        10 => read_swap(alloc, fields),
         _ => Err(CodecFault::BadKind(at)),
     }
 }
@@ -192,4 +184,14 @@ fn read_delete(alloc: Global, fields: &mut Cursor<'_>) -> Result<Command, CodecF
 {
     let key = fields.octets(alloc, 1, KEY)?;
     Ok(Command::Delete { key })
+}
+
+#[tactic(auto, unfolding(crate::specs::Grammar::swap_at))]
+fn read_swap(alloc: Global, fields: &mut Cursor<'_>) -> Result<Command, CodecFault>
+    ensures { Reads (λ c. c) (swap_at fields.old) result fields.new }
+{
+    let key = fields.octets(alloc, 1, KEY)?;
+    let old = fields.octets(alloc, 0, STORED)?;
+    let new = fields.octets(alloc, 0, STORED)?;
+    Ok(Command::Swap { key, old, new })
 }

@@ -3,38 +3,35 @@
 ghost use Rattle.std.specs.Prelude.{◌≡◌, ◌<◌, ◌≤◌, ◌^◌, IfOk, if◌then◌else◌, Ok, Err};
 ghost use Rattle.mrp_types.specs.declared.value.Value.TheVariants.{Skip};
 ghost use Rattle.command_codec.specs.declared.fault.CodecFault.TheVariants.{BadField};
-ghost use Rattle.command_codec.specs.Reader.{Reads};
+ghost use Rattle.command_codec.specs.Reader.{Reads, WantsNone};
 ghost use Rattle.command_codec.specs.Parts.{ring_at, ballot_at, inst_at, range_from, value_at, spells_skip};
 
+use crate::limits::{LAST_BALLOT, LAST_RING, VALUE};
 use crate::reading::Cursor;
 use crate::{CodecFault, is_batch};
 use mrp_types::{Ballot, END, Inst, Payload, RingId, Value};
 use std::alloc::Global;
 
-// The greatest number of a ring, the greatest ballot, and the most bytes of a value.
-const LAST_RING: u8 = 15;
-
-const LAST_BALLOT: Ballot = (1 << 48) - 1;
-
-const VALUE: usize = 8_192;
-
 /// The next byte as a ring, which is below 16.
 pub fn read_ring(fields: &mut Cursor<'_>) -> Result<RingId, CodecFault>
-    ensures { Reads (λ r. r) (ring_at fields.old) result fields.new }
+    ensures exact { Reads (λ r. r) (ring_at fields.old) result fields.new }
+    ensures sure { WantsNone result }
 {
     Ok(RingId(fields.byte_within(0, LAST_RING)?))
 }
 
 /// The next eight bytes as a ballot, which is below 2^48.
 pub fn read_ballot(fields: &mut Cursor<'_>) -> Result<Ballot, CodecFault>
-    ensures { Reads (λ n. n) (ballot_at fields.old) result fields.new }
+    ensures exact { Reads (λ n. n) (ballot_at fields.old) result fields.new }
+    ensures sure { WantsNone result }
 {
     fields.u64_within(0, LAST_BALLOT)
 }
 
 /// The next eight bytes as an instance, which is below the end of all.
 pub fn read_inst(fields: &mut Cursor<'_>) -> Result<Inst, CodecFault>
-    ensures { Reads (λ n. n) (inst_at fields.old) result fields.new }
+    ensures exact { Reads (λ n. n) (inst_at fields.old) result fields.new }
+    ensures sure { WantsNone result }
 {
     fields.u64_within(0, END - 1)
 }
@@ -42,6 +39,7 @@ pub fn read_inst(fields: &mut Cursor<'_>) -> Result<Inst, CodecFault>
 /// The first instance of a range, which is at least `least`, and the first one past it.
 pub fn read_range(fields: &mut Cursor<'_>, least: Inst) -> Result<(Inst, Inst), CodecFault>
     ensures exact { Reads (λ r. r) (range_from least fields.old) result fields.new }
+    ensures sure { WantsNone result }
     ensures low { IfOk result (λ r. r.0 < 2 ^ 40) }
     ensures high { IfOk result (λ r. r.1 ≤ 2 ^ 40) }
 {

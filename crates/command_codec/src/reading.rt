@@ -77,6 +77,7 @@ impl<'a> Cursor<'a> {
     #[tactic(auto, unfolding(crate::specs::Reader::within))]
     pub fn byte_within(&mut self, least: u8, most: u8) -> Result<u8, CodecFault>
         ensures exact { Reads (λ n. n) (within least most byte_at self.old) result self.new }
+        ensures sure { WantsNone result }
         ensures range { IfOk result (λ n. n ≤ most) }
         ensures least { IfOk result (λ n. least ≤ n) }
     {
@@ -120,7 +121,8 @@ impl<'a> Cursor<'a> {
     /// The next four bytes as a number.
     #[tactic(auto, unfolding(crate::specs::Reader::number_at))]
     pub fn u32(&mut self) -> Result<u32, CodecFault>
-        ensures { Reads (λ n. n) (number_at w32 self.old) result self.new }
+        ensures exact { Reads (λ n. n) (number_at w32 self.old) result self.new }
+        ensures sure { WantsNone result }
     {
         Ok(number32(self.bytes(4)?))
     }
@@ -196,7 +198,8 @@ impl<'a> Cursor<'a> {
 
     /// Asks that nothing is left.
     pub fn end(&self) -> Result<(), CodecFault>
-        ensures { Says (λ x. x) (ended tt self.now) result }
+        ensures exact { Says (λ x. x) (ended tt self.now) result }
+        ensures sure { WantsNone result }
     {
         if !self.rest.is_empty() {
             return Err(CodecFault::Left(self.at));

@@ -5,24 +5,12 @@ ghost use Rattle.std.specs.List.{AllByRecursion, flat_map};
 ghost use Rattle.command_codec.specs.Fields.{u16_bytes, u64_bytes};
 ghost use Rattle.command_codec.specs.Replies.{IsReply, ArePositions, AreTableEntries, IsPosition, IsTableEntry, reply_bytes, position_bytes, table_entry_bytes, keys_rise, flag};
 
+use crate::limits::{ENTRIES, KEY, LOGS, POSITIONS, STORED};
 use crate::order::comes_after;
 use crate::writing::{put_string16, put_u8, put_u16, put_u64};
 use crate::{LogPositions, TableEntries};
 use mrp_types::{LogId, Memory, Octets};
 use std::alloc::Global;
-
-// The greatest lengths of a key and of a stored value, in bytes.
-const KEY: usize = 256;
-
-const STORED: usize = 2_048;
-
-// Logs have numbers below this.
-const LOGS: u8 = 64;
-
-// A reply has at most so many positions, and at most so many table entries.
-const POSITIONS: usize = 255;
-
-const ENTRIES: usize = 65_535;
 
 /// The position that a log gave a value.
 #[derive(Clone, Copy, Debug, PartialEq, Eq)]
@@ -70,6 +58,8 @@ pub enum Reply {
     Entries { more: bool, entries: TableEntries },
     /// It would take the partition past its limit of bytes.
     Limit,
+    /// The key has another value than the one that was expected, which is this.
+    Differs(Octets),
 }
 
 impl Reply {
@@ -82,6 +72,7 @@ impl Reply {
             Reply::Positions(positions) => are_positions(positions.items()),
             Reply::Value(value) => value.len() <= STORED,
             Reply::Entries { more: _, entries } => are_entries(entries.items()),
+            Reply::Differs(value) => value.len() <= STORED,
             _ => true,
         }
     }
@@ -103,6 +94,7 @@ impl Reply {
                 entries: entries.copy(alloc)?,
             }),
             Reply::Limit => Ok(Reply::Limit),
+            Reply::Differs(value) => Ok(Reply::Differs(Octets::from_slice(alloc, value.bytes())?)),
         }
     }
 }
@@ -184,6 +176,10 @@ fn put_reply(out: &mut Octets, reply: &Reply) -> Result<(), Memory>
             put_entries(out, entries.items())
         }
         Reply::Limit => put_u8(out, 9),
+        Reply::Differs(value) => {
+            put_u8(out, 10)?;
+            put_string16(out, value.bytes())
+        }
     }
 }
 

@@ -6,18 +6,11 @@ ghost use Rattle.command_codec.specs.Reader.{Reads, Says, chain, each, string_th
 ghost use Rattle.command_codec.specs.Grammar.{reply_of, reply_at, reply_of_kind, positions_at, position_at, entries_reply_at, table_entry_at, key_of, comes_after};
 ghost use Rattle.command_codec.specs.Replies.{reply_bytes, IsReply, HasNumbers};
 
+use crate::limits::{KEY, LAST_LOG, STORED};
 use crate::reading::Cursor;
 use crate::{CodecFault, LogPosition, LogPositions, Reply, TableEntries, TableEntry, order};
 use mrp_types::{LogId, Octets};
 use std::alloc::Global;
-
-// The greatest lengths of a key and of a stored value, in bytes.
-const KEY: usize = 256;
-
-const STORED: usize = 2_048;
-
-// The greatest number of a log.
-const LAST_LOG: u8 = 63;
 
 /// The reply that the bytes spell, all of the bytes.
 pub fn read_reply(alloc: Global, bytes: &[u8]) -> Result<Reply, CodecFault>
@@ -67,6 +60,7 @@ fn read_of_kind(
         7 => Ok(Reply::Done),
         8 => read_entries(alloc, fields),
         9 => Ok(Reply::Limit),
+        10 => Ok(Reply::Differs(fields.octets(alloc, 0, STORED)?)),
         _ => Err(CodecFault::BadKind(at)),
     }
 }

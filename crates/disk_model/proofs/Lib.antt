@@ -4,3 +4,4 @@ pub mod OnArea
 pub mod OwnSteps
 pub mod Reading
 pub mod Telling
+pub mod Undoing

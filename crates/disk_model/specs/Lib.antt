@@ -4,3 +4,4 @@ pub mod Causes
 pub mod Crash
 pub mod Sim
 pub mod Steps
+pub mod Undoing

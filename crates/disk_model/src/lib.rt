@@ -9,6 +9,7 @@ mod disk;
 mod octets;
 mod plan;
 mod sim;
+mod undo;
 
 pub use area::{Area, Image, Refused};
 pub use areas::Areas;

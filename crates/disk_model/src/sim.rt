@@ -1,44 +1,47 @@
 //! A disk in memory, which can be told to fail and to crash.
-ghost use Rattle.std.specs.Prelude.{◌≡◌, ◌≤◌, ◌<◌, ◌+◌, ◌++◌, [], ◌∷◌, length, take, drop, min, None, Some, true, false, IfOk, OnOk, OnErr, IsErrOf, if◌then◌else◌};
+ghost use Rattle.std.specs.Prelude.{◌≡◌, ◌≤◌, ◌<◌, ◌+◌, ◌++◌, [], ◌∷◌, length, take, drop, min, None, Some, true, false, IfOk, OnOk, OnErr, IsErrOf};
 ghost use Rattle.disk_model.specs.Areas.{bytes_of, with_bytes};
-ghost use Rattle.disk_model.specs.Calls.{Told, Tells, and_then, begun, followed, area_bytes, reads, kept, IsImage};
+ghost use Rattle.disk_model.specs.Calls.{Told, Tells, and_then, begun, followed, area_bytes, reads, kept, IsImage, IsSettled};
 ghost use Rattle.disk_model.specs.Causes.{Causes, GivesBytes, ForetoldChange, ForetoldRead, ForetoldLen, is_failed, falls_on_change, falls_on_read, falls_on_len};
 ghost use Rattle.disk_model.specs.Crash.{left_of, left_by};
 ghost use Rattle.disk_model.specs.Sim.{Sim, fresh, areas_of, after_change, after_read, after_len};
 ghost use Rattle.disk_model.specs.Steps.{written};
+ghost use Rattle.disk_model.specs.Undoing.{undo_of_write};
 ghost use Rattle.disk_model.specs.declared.area.Refused.TheVariants.{Failed, Memory};
 ghost use Rattle.disk_model.specs.declared.area.Area.TheVariants.{Journal0, Journal1, Check2, Check3};
 ghost use Rattle.disk_model.specs.declared.call.Call.TheVariants.{Write, Cut, Sync};
 
 use crate::crash::{filled, replayed, settled_calls};
+use crate::undo::{Undo, taken_back};
 use crate::{Area, Areas, Call, Disk, Image, Octets, Refused, Trouble};
 use std::alloc::{AllocError, Global};
 use std::marker::Model;
 
-/// A disk in memory. It keeps the areas at its start and the list of the calls that took effect, so that its
-/// images at each moment are known. Contracts see these, its plan of faults, whether its fuse has stopped a
-/// call, and how many calls have failed.
+/// A disk in memory. It keeps what a read gives, and beside it the list of the calls that took effect since it began or was
+/// last settled, with what they overwrote, so that its areas at its start and its images at each moment are known. Contracts
+/// see these areas and calls, its plan of faults, whether its fuse has stopped a call, and how many calls have failed.
 #[derive(Drop)]
 pub struct SimDisk {
     alloc: Global,
-    start: Areas,
-    calls: Vec<Call>,
-    // what a read gives, once something has changed
+    // what a read gives
     current: Areas,
-    changed: bool,
+    calls: Vec<Call>,
+    // how the calls are taken back, in their order
+    undos: Vec<Undo>,
     trouble: Trouble,
 }
 
 impl Model for SimDisk {
-    ghost use Rattle.std.specs.Prelude.{◌≡◌, if◌then◌else◌};
+    ghost use Rattle.std.specs.Prelude.{◌≡◌};
     ghost use Rattle.disk_model.specs.Calls.{reads};
     ghost use Rattle.disk_model.specs.Sim.{Sim};
+    ghost use Rattle.disk_model.specs.Undoing.{all_undone};
 
     ghost Value = { Sim };
 
-    ghost view = { λ d. record { told = record { start = d.start; calls = d.calls.items }; trouble = d.trouble } };
+    ghost view = { λ d. record { told = record { start = all_undone d.undos.items d.current; calls = d.calls.items }; trouble = d.trouble } };
 
-    ghost invariant = { λ d. (if d.changed then d.current else d.start) ≡ reads (record { start = d.start; calls = d.calls.items }) };
+    ghost invariant = { λ d. d.current ≡ reads (record { start = all_undone d.undos.items d.current; calls = d.calls.items }) };
 }
 
 impl SimDisk {
@@ -69,10 +72,9 @@ impl SimDisk {
     {
         SimDisk {
             alloc,
-            start: areas,
+            current: areas,
             calls: Vec::new(alloc),
-            current: no_areas(alloc),
-            changed: false,
+            undos: Vec::new(alloc),
             trouble: Trouble::none(),
         }
     }
@@ -109,10 +111,16 @@ impl SimDisk {
     pub fn bytes(&self, area: Area) -> &[u8]
         ensures { result.now ≡ area_bytes area self.now.told }
     {
-        if self.changed {
-            return self.current.of(area).bytes();
-        }
-        self.start.of(area).bytes()
+        self.current.of(area).bytes()
+    }
+
+    /// Makes what a read gives the new start. It asks that nothing is pending, so that a crash leaves the same before and after.
+    pub fn settle(&mut self)
+        requires { IsSettled self.old.told }
+        ensures { self.new ≡ record self.old { told = begun (reads self.old.told) } }
+    {
+        self.calls.clear();
+        self.undos.clear();
     }
 
     /// The disk after a crash that leaves this image. Nothing is pending on it, and no call is to fail.
@@ -147,7 +155,9 @@ impl SimDisk {
         }
         let calls = self.calls.as_slice();
         let settled = settled_calls(calls);
-        let kept = replayed(self.alloc, self.start.of(area), &calls[..settled], area)?;
+        let file = Octets::of(self.alloc, self.current.of(area).bytes())?;
+        let start = taken_back(file, &self.undos, area)?;
+        let kept = replayed(self.alloc, &start, &calls[..settled], area)?;
         if let Image::Fill { keep, byte } = image {
             let left = filled(self.alloc, &kept, &calls[settled..], area, keep, byte)?;
             return Ok(left);
@@ -205,15 +215,10 @@ impl Disk for SimDisk {
             self.trouble.fail_change();
             return Err(Refused::Failed);
         }
-        load(
-            self.alloc,
-            &self.start,
-            &mut self.current,
-            &mut self.changed,
-        )?;
         write_over(
             self.alloc,
             &mut self.calls,
+            &mut self.undos,
             &mut self.current,
             area,
             at,
@@ -232,13 +237,13 @@ impl Disk for SimDisk {
             self.trouble.fail_change();
             return Err(Refused::Failed);
         }
-        load(
-            self.alloc,
-            &self.start,
-            &mut self.current,
-            &mut self.changed,
+        let undo = Undo::of_cut(self.alloc, &self.current, area, len as usize)?;
+        note(
+            &mut self.calls,
+            &mut self.undos,
+            Call::Cut { area, len },
+            undo,
         )?;
-        self.calls.push(Call::Cut { area, len })?;
         self.current.cut(area, len as usize);
         self.trouble.pass_change();
         Ok(())
@@ -271,21 +276,25 @@ fn no_areas(alloc: Global) -> Areas
     }
 }
 
-// Makes the copy of the areas that calls change.
-fn load(alloc: Global, start: &Areas, now: &mut Areas, changed: &mut bool) -> Result<(), AllocError>
-    ensures loaded { OnOk result (changed.new ≡ true) }
-    ensures same { (if changed.new then now.new else start.now) ≡ (if changed.old then now.old else start.now) }
+// Notes a call, and how it is taken back: both or none.
+fn note(
+    calls: &mut Vec<Call>,
+    undos: &mut Vec<Undo>,
+    call: Call,
+    undo: Undo,
+) -> Result<(), AllocError>
+    ensures calls { OnOk result (calls.new.items ≡ calls.old.items ++ call ∷ []) }
+    ensures undos { OnOk result (undos.new.items ≡ undos.old.items ++ undo ∷ []) }
+    ensures same_calls { OnErr result (calls.new.items ≡ calls.old.items) }
+    ensures same_undos { OnErr result (undos.new.items ≡ undos.old.items) }
 {
-    if *changed {
-        return Ok(());
+    if calls.push(call).is_err() {
+        return Err(AllocError);
     }
-    *now = Areas {
-        journal0: Octets::of(alloc, start.journal0.bytes())?,
-        journal1: Octets::of(alloc, start.journal1.bytes())?,
-        check2: Octets::of(alloc, start.check2.bytes())?,
-        check3: Octets::of(alloc, start.check3.bytes())?,
-    };
-    *changed = true;
+    if undos.push(undo).is_err() {
+        let _ = calls.pop();
+        return Err(AllocError);
+    }
     Ok(())
 }
 
@@ -293,20 +302,25 @@ fn load(alloc: Global, start: &Areas, now: &mut Areas, changed: &mut bool) -> Re
 fn write_over(
     alloc: Global,
     calls: &mut Vec<Call>,
+    undos: &mut Vec<Undo>,
     now: &mut Areas,
     area: Area,
     at: u64,
     from: &[u8],
 ) -> Result<(), AllocError>
     ensures calls { OnOk result (calls.new.items ≡ calls.old.items ++ Write area at from.now ∷ []) }
+    ensures undos { OnOk result (undos.new.items ≡ undos.old.items ++ undo_of_write area at from.now now.old ∷ []) }
     ensures now { OnOk result (now.new ≡ with_bytes area (written at from.now (bytes_of area now.old)) now.old) }
     ensures same_calls { OnErr result (calls.new.items ≡ calls.old.items) }
+    ensures same_undos { OnErr result (undos.new.items ≡ undos.old.items) }
     ensures same_now { OnErr result (now.new ≡ now.old) }
 {
+    let undo = Undo::of_write(alloc, now, area, at as usize, from.len())?;
     let bytes = Octets::of(alloc, from)?;
-    calls.push(Call::Write { area, at, bytes })?;
+    note(calls, undos, Call::Write { area, at, bytes }, undo)?;
     if now.overwrite(area, at as usize, from).is_err() {
         let _ = calls.pop();
+        let _ = undos.pop();
         return Err(AllocError);
     }
     Ok(())

@@ -1,3 +1,6 @@
+ghost use Rattle.std.specs.Prelude.{OnOk};
+ghost use Rattle.disk_model.specs.Calls.{IsSettled};
+
 use super::*;
 use std::alloc::{AllocError, Global};
 use std::process::Abort;
@@ -217,5 +220,35 @@ fn through_the_bound(rt: HostRuntime) -> Result<(), Fail> {
     assert_eq!(rt; put(&mut disk, b"abc"), Ok(3));
     assert_eq!(rt; disk.bytes(Area::Journal1), b"abc".as_slice());
     assert_eq!(rt; Area::Check3.number(), 3);
+    Ok(())
+}
+
+// Syncs, after which nothing is pending.
+fn synced(disk: &mut SimDisk) -> Result<(), Refused>
+    ensures { OnOk result (IsSettled disk.new.told) }
+{
+    disk.sync()
+}
+
+// Two writes, a cut and a write past the end, not synced, on a disk that was settled before.
+fn settled(alloc: Global) -> Result<SimDisk, Refused> {
+    let mut disk = disk_of(alloc, &[1, 2])?;
+    disk.write_at(Area::Journal0, 1, &[3, 4])?;
+    synced(&mut disk)?;
+    disk.settle();
+    disk.write_at(Area::Journal0, 0, &[5, 6])?;
+    disk.write_at(Area::Journal0, 2, &[7, 8])?;
+    disk.cut(Area::Journal0, 1)?;
+    disk.write_at(Area::Journal0, 9, &[9])?;
+    Ok(disk)
+}
+
+#[test]
+fn what_was_settled_is_left(rt: HostRuntime) -> Result<(), Fail> {
+    let alloc = rt.alloc();
+    leaves(&rt, settled(alloc)?, Image::Old, &[1, 3, 4])?;
+    leaves(&rt, settled(alloc)?, Image::New, &[5, 9])?;
+    let fill = Image::Fill { keep: 1, byte: 0 };
+    leaves(&rt, settled(alloc)?, fill, &[5, 0, 0, 0])?;
     Ok(())
 }

@@ -3,5 +3,3 @@ pub mod Ordering
 pub mod Quorum
 pub mod Between
 pub mod Moving
-pub mod OneMore
-pub mod OneBook

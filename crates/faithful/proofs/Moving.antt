@@ -12,7 +12,7 @@ use Rattle.protocol.specs.Lines.{Line}
 use Rattle.faithful.specs.Scanners.{Reaches, book}
 use Rattle.faithful.specs.Rules.{IsKnown, AllKnown, BySkips}
 use Rattle.faithful.proofs.Ordering.{Reaches-trans, rings_fit, is_valid, is_tuple, is_reaches, reaches_is}
-use Rattle.tuple_laws.proofs.Moving.{has_past}
+use Rattle.mrp_types.proofs.TupleMoves.{has_past}
 use Rattle.faithful.proofs.Between.{none_between}
 
 -- ---- the moved tuple is one of the same rings, and valid

@@ -3,11 +3,12 @@ use Rattle.std.proofs.Common.{◌≡◌, ℕ, ◌≤◌, ◌⊎◌, inl, inr, Bo
 use Rattle.std.specs.Prelude.{◌==◌, nat_lt, nat_le, ◌&&◌, ◌||◌}
 use Rattle.std.proofs.lemmas.Bool.Decides.{nat_tests}
 use Rattle.mrp_types.specs.declared.id.RingId.{RingId}
-use Rattle.checkpoint.specs.Checks.{is_same_tuple, is_after}
+use Rattle.checkpoint.specs.Checkpoints.{is_same_tuple, is_after}
 use Rattle.plain_model.specs.Tuples.{is_at_or_after, has_rings, is_valid_tuple, is_tuple_of, instances}
 use Rattle.plain_model.proofs.TupleOrder.{split_and, both_true, same_number}
 use Rattle.plain_model.proofs.TupleChain.{le_is, is_le, one_reaches, later_rings, by_entries, by_parts_of_list}
-use Rattle.faithful.specs.Scanners.{paired, Reaches}
+pub use Rattle.line_rules.proofs.Printed.{rings_fit, paired_same}
+use Rattle.faithful.specs.Scanners.{Reaches}
 
 pub Reaches-refl : (xs : List ℕ) → Reaches xs xs
 Reaches-refl [] = tt
@@ -20,10 +21,6 @@ Reaches-trans [] (y ∷ ys) zs p q = absurd p
 Reaches-trans (x ∷ xs) [] zs p q = absurd p
 Reaches-trans (x ∷ xs) (y ∷ ys) [] p q = absurd q
 Reaches-trans (x ∷ xs) (y ∷ ys) (z ∷ zs) p q = (le_trans q.0 p.0, Reaches-trans xs ys zs p.1 q.1)
-
--- the rings of a valid tuple
-pub rings_fit : (m : ℕ → ℕ) (rings : List RingId) (k : List (RingId × ℕ)) → is_tuple_of m rings k ≡ true → has_rings rings k ≡ true
-rings_fit m rings k h = (split_and (has_rings rings k) (is_valid_tuple m k) h).0
 
 pub is_valid : (m : ℕ → ℕ) (rings : List RingId) (k : List (RingId × ℕ)) → is_tuple_of m rings k ≡ true → is_valid_tuple m k ≡ true
 is_valid m rings k h = (split_and (has_rings rings k) (is_valid_tuple m k) h).1
@@ -96,12 +93,3 @@ same_tuple rings (x ∷ xs) (y ∷ ys) e =
     let s = split_and (x.0.0 == y.0.0) ((x.1 == y.1) && is_same_tuple xs ys) e in
     let t = split_and (x.1 == y.1) (is_same_tuple xs ys) s.1 in
     by_parts_of_list x y xs ys (by_entries x y (same_number x.0.0 y.0.0 s.0) (same_number x.1 y.1 t.0)) (same_tuple rings xs ys t.1)
-
--- a tuple is told by its instances
-pub paired_same : (rings : List RingId) (k : List (RingId × ℕ)) → has_rings rings k ≡ true → paired rings (instances k) ≡ k
-paired_same [] [] h = refl
-paired_same [] (x ∷ xs) h = absurd (true≢false (sym h))
-paired_same (ring ∷ rings) [] h = absurd (true≢false (sym h))
-paired_same (ring ∷ rings) (x ∷ xs) h =
-    let s = split_and (ring.0 == x.0.0) (has_rings rings xs) h in
-    by_parts_of_list (ring, x.1) x (paired rings (instances xs)) xs (by_entries (ring, x.1) x (same_number ring.0 x.0.0 s.0) refl) (paired_same rings xs s.1)

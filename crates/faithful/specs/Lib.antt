@@ -1,4 +1,3 @@
 pub mod Scanners
 pub mod Answers
 pub mod Rules
-pub mod More

@@ -1,50 +1,23 @@
-//! What faithful lines say of tuples: what is read of the lines before a line, and the rules of deliveries, saves, choices,
-//! restores, trims, attempts and refusals (F2 and F6 to F9), each of a line and the lines before it.
+//! What faithful lines say of tuples: the rules of deliveries, saves, choices, restores, trims, attempts and refusals (F2 and F6 to
+//! F9) of `line_rules`, each of a line and the lines before it, and laws of tuples and quorums beside them.
 //!
 //! Definitions and laws alone: each function has an empty body, and its contract is the law. A list of lines stands with the
 //! latest first, so what stands before a line is the rest of the list. The rules of learn, reply, state and answer lines aren't
-//! here: a line of those kinds owes nothing by these definitions.
+//! cited here: a line of those kinds owes nothing by these definitions.
 #![tactic(auto)]
 
-ghost use Rattle.std.specs.Prelude.{◌≡◌, ◌<◌, ◌≤◌, ◌+◌, ℕ, Bool, true, false, List, [], ◌∷◌, ◌++◌, Option, Some, count_by, length};
+ghost use Rattle.std.specs.Prelude.{◌≡◌, ◌<◌, ◌≤◌, ◌+◌, ℕ, Bool, true, false, List, Some, count_by, length};
 ghost use Rattle.std.specs.List.{AllByRecursion};
 ghost use Rattle.mrp_types.specs.declared.id.NodeId.{NodeId};
 ghost use Rattle.mrp_types.specs.declared.id.RingId.{RingId};
-ghost use Rattle.mrp_types.specs.declared.value.Value.{Value};
 ghost use Rattle.mrp_types.specs.declared.value.Value.TheVariants.{Skip};
 ghost use Rattle.mrp_config.specs.Config.{has_node};
-ghost use Rattle.quorums.specs.Groups.{Has};
-ghost use Rattle.plain_model.specs.Tuples.{instances, is_at_or_after, is_tuple_of, next_place, past, place_of, tuple_at};
-ghost use Rattle.plain_model.specs.Lines as plain;
-ghost use Rattle.checkpoint.specs.Checks.{is_after};
+ghost use Rattle.plain_model.specs.Tuples.{instances, is_at_or_after, is_tuple_of, next_place, past};
+ghost use Rattle.checkpoint.specs.Checkpoints.{is_after};
 ghost use Rattle.protocol.specs.Lines.{Line};
-ghost use Rattle.faithful.specs.Scanners.{Reaches, before_attempt, begun, book, paired, told, touches};
-ghost use Rattle.faithful.specs.Scanners as scanners;
+ghost use Rattle.faithful.specs.Scanners.{Reaches, book, paired};
 ghost use Rattle.faithful.specs.Answers.{AreDifferent, Both};
 ghost use Rattle.faithful.specs.Rules.{AllKnown, BySkips, IsKnown};
-ghost use Rattle.faithful.specs.More.{ReadsOn, ReadsSame};
-
-/// One line more. A line that isn't of a node's life changes nothing of what is read of that node; one of its life tells what its
-/// kind tells, or else what was told before, and moves the node on.
-pub fn one_line_more()
-    ensures others { (m : ℕ → ℕ) (rings : List RingId) (x : ℕ) (l : Line) (before : List Line) → touches x l ≡ false → ReadsSame m rings x l before }
-    ensures own { (m : ℕ → ℕ) (rings : List RingId) (x : ℕ) (l : Line) (before : List Line) → touches x l ≡ true → ReadsOn m rings x l before }
-{}
-
-/// What stays once it is there, whatever is printed later: a value of the book, a tuple that was told, an attempt that was begun,
-/// and the lines before the first begin line of an attempt.
-pub fn lines_only_grow()
-    ensures book { (l : Line) (before : List Line) (ring : RingId) (inst : ℕ) (value : Value) → book before ring inst ≡ Some value → book (l ∷ before) ring inst ≡ Some value }
-    ensures told { (x : ℕ) (l : Line) (before : List Line) (tuple : List ℕ) → Has (told x before) tuple → Has (told x (l ∷ before)) tuple }
-    ensures begun { (x : ℕ) (l : Line) (before : List Line) (attempt : ℕ × ℕ) → Has (begun x before) attempt → Has (begun x (l ∷ before)) attempt }
-    ensures first { (x epoch attempt : ℕ) (l : Line) (before earlier : List Line) → before_attempt x epoch attempt before ≡ Some earlier → before_attempt x epoch attempt (l ∷ before) ≡ Some earlier }
-    ensures joined { (before xs ys : List Line) → scanners.past before (xs ++ ys) ≡ scanners.past (scanners.past before xs) ys }
-{}
-
-/// The book of lines that stand with the latest first is the book of the plain model over these lines in order.
-pub fn one_book()
-    ensures { (lines : List Line) (ring : RingId) (inst : ℕ) → book (scanners.past [] lines) ring inst ≡ plain.book lines ring inst }
-{}
 
 /// Two groups of nodes that together are more than all share one; and of nodes that answered once at most, no more are counted
 /// than pass a test that all of them pass.

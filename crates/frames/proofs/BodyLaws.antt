@@ -78,10 +78,10 @@ few_hops : (client : Bool) (hops : ℕ) → hops ≤ 1 → (client ≡ true → 
 few_hops true hops h none = omega (arith, none refl)
 few_hops false hops h none = h
 
-submit_fields : (client : Bool) → Field (RingId × (ℕ × (ℕ × (ℕ × List ℕ)))) (both ring_at (both (within 0 (most_hops client) byte_at) (both byte_at (both (within 1 (2 ^ 63 - 1) (number_at w64)) (string_at 0 4096)))))
+submit_fields : (client : Bool) → Field (RingId × (ℕ × (ℕ × (ℕ × List ℕ)))) (both ring_at (both (within 0 (most_hops client) byte_at) (both byte_at (both (within 1 (2 ^ 63 - 1) (number_at w64)) (string_at 0 4608)))))
     (λ x. ring_text x.0 ++ (one_byte x.1.0 ++ (one_byte x.1.1.0 ++ (u64_bytes x.1.1.1.0 ++ string16 x.1.1.1.1))))
-    (λ x. IsRing x.0 × (((x.1.0 < 256) × (0 ≤ x.1.0) × (x.1.0 ≤ most_hops client)) × (Unit {0} × (IsNumber 1 (2 ^ 63 - 1) x.1.1.1.0 × HasLength 0 4096 x.1.1.1.1))))
-submit_fields client = pair ring_law (pair (within_law 0 (most_hops client) byte_at one_byte (λ n. n < 256) byte_law) (pair any_byte_law (pair (wide_law 1 (2 ^ 63 - 1)) (string_law 0 4096 (lit< tt)))))
+    (λ x. IsRing x.0 × (((x.1.0 < 256) × (0 ≤ x.1.0) × (x.1.0 ≤ most_hops client)) × (Unit {0} × (IsNumber 1 (2 ^ 63 - 1) x.1.1.1.0 × HasLength 0 4608 x.1.1.1.1))))
+submit_fields client = pair ring_law (pair (within_law 0 (most_hops client) byte_at one_byte (λ n. n < 256) byte_law) (pair any_byte_law (pair (wide_law 1 (2 ^ 63 - 1)) (string_law 0 4608 (lit< tt)))))
 
 range_is : (r : ℕ × ℕ) → IsRangeFrom 0 r → IsRange r.0 r.1
 range_is r is = (omega (arith, is.1.1), is.1.2)

@@ -109,7 +109,7 @@ passed false fault u h = absurd cc
 
 -- the bytes that begin with the magic, the version and a kind
 record Begins (bytes : List ℕ) (x : ℕ × Spot) : Type 0 where
-  whole : bytes ≡ 0x4d ∷ 0x52 ∷ 1 ∷ x.0 ∷ x.1.rest
+  whole : bytes ≡ 0x4d ∷ 0x52 ∷ 2 ∷ x.0 ∷ x.1.rest
   some : 1 ≤ x.0
   few : x.0 ≤ 19
 
@@ -128,7 +128,7 @@ two_at a b rest = rw (long_enough rest) refl
 after_magic : Spot → Result (ℕ × Spot) FrameFault
 after_magic spot = do
   version ← in_frame (byte_at spot)
-  known ← unless (version.0 == 1) (BadVersion version.0)
+  known ← unless (version.0 == 2) (BadVersion version.0)
   kind ← in_frame (byte_at version.1)
   some ← unless (nat_le 1 kind.0 && nat_le kind.0 19) (BadKind kind.0)
   Ok kind
@@ -143,22 +143,22 @@ is_least a b h = grind arith
 least_is : (a b : ℕ) → a ≤ b → nat_le a b ≡ true
 least_is a b h = grind arith
 
-after_was : (rest : List ℕ) (x : ℕ × Spot) → after_magic (record { at = 2; rest = rest }) ≡ Ok x → (rest ≡ 1 ∷ x.0 ∷ x.1.rest) × (1 ≤ x.0) × (x.0 ≤ 19)
+after_was : (rest : List ℕ) (x : ℕ × Spot) → after_magic (record { at = 2; rest = rest }) ≡ Ok x → (rest ≡ 2 ∷ x.0 ∷ x.1.rest) × (1 ≤ x.0) × (x.0 ≤ 19)
 unfolding after_magic
 after_was [] x h = absurd cc
 after_was (c ∷ []) x h =
-    let known = bound_by (unless (c == 1) (BadVersion c)) _ x h in
+    let known = bound_by (unless (c == 2) (BadVersion c)) _ x h in
     absurd (no_kind known.2)
   where
     no_kind : Err (fault_of (fields.Short 3)) ≡ Ok x → ⊥
     no_kind h = cc
 after_was (c ∷ d ∷ rest) x h =
-    let known = bound_by (unless (c == 1) (BadVersion c)) _ x h in
+    let known = bound_by (unless (c == 2) (BadVersion c)) _ x h in
     let some = bound_by (unless (nat_le 1 d && nat_le d 19) (BadKind d)) (λ u. Ok (d, record { at = 4; rest = rest })) x known.2 in
     let range = both_tests (nat_le 1 d) (nat_le d 19) (passed _ _ some.0 some.1) in
-    let one : c ≡ 1 = eqb-true c 1 (passed _ _ known.0 known.1) in
-    subst (λ (y : ℕ × Spot). (c ∷ d ∷ rest ≡ 1 ∷ y.0 ∷ y.1.rest) × (1 ≤ y.0) × (y.0 ≤ 19)) (frame_is (d, record { at = 4; rest = rest }) x some.2)
-    (ap (λ n. n ∷ d ∷ rest) one, is_least 1 d range.0, is_least d 19 range.1)
+    let two : c ≡ 2 = eqb-true c 2 (passed _ _ known.0 known.1) in
+    subst (λ (y : ℕ × Spot). (c ∷ d ∷ rest ≡ 2 ∷ y.0 ∷ y.1.rest) × (1 ≤ y.0) × (y.0 ≤ 19)) (frame_is (d, record { at = 4; rest = rest }) x some.2)
+    (ap (λ n. n ∷ d ∷ rest) two, is_least 1 d range.0, is_least d 19 range.1)
 
 no_bytes : (x : ℕ × Spot) → kind_at (start []) ≡ Ok x → ⊥
 unfolding kind_at bytes_at
@@ -179,9 +179,9 @@ header_was (a ∷ b ∷ rest) x h =
     let after = after_was rest x magic.2 in
     record { whole = rw (first, second, after.0) refl; some = after.1; few = after.2 }
 
-header_again : (kind : ℕ) (rest : List ℕ) → 1 ≤ kind → kind ≤ 19 → kind_at (start (0x4d ∷ 0x52 ∷ 1 ∷ kind ∷ rest)) ≡ Ok (kind, record { at = 4; rest = rest })
+header_again : (kind : ℕ) (rest : List ℕ) → 1 ≤ kind → kind ≤ 19 → kind_at (start (0x4d ∷ 0x52 ∷ 2 ∷ kind ∷ rest)) ≡ Ok (kind, record { at = 4; rest = rest })
 unfolding after_magic
-header_again kind rest low high = with_magic 0x4d 0x52 (1 ∷ kind ∷ rest) ∙ rw (least_is 1 kind low, least_is kind 19 high) refl
+header_again kind rest low high = with_magic 0x4d 0x52 (2 ∷ kind ∷ rest) ∙ rw (least_is 1 kind low, least_is kind 19 high) refl
 
 -- ---- frames
 
@@ -288,10 +288,10 @@ frame_was bytes frame are h =
     let header = bound_by (kind_at (start bytes)) (λ kind. in_frame (all_of (frame_of_kind kind.0) kind.1)) frame short.1 in
     let begins = header_was bytes header.0 header.1 in
     let law = rest_law header.0.0 begins.some begins.few in
-    let behind = rest_of_four 0x4d 0x52 1 header.0.0 header.0.1.rest (subst AreBytes begins.whole are) in
+    let behind = rest_of_four 0x4d 0x52 2 header.0.0 header.0.1.rest (subst AreBytes begins.whole are) in
     let all = all_was (frame_of_kind header.0.0) rest_bytes (IsRest header.0.0) law header.0.1 frame behind (fits (all_of (frame_of_kind header.0.0) header.0.1) frame header.2) in
     let spelled : bytes ≡ frame_bytes frame =
-    begins.whole ∙ (ap (λ (r : List ℕ). 0x4d ∷ 0x52 ∷ 1 ∷ header.0.0 ∷ r) all.0 ∙ ap (λ (k : ℕ). 0x4d ∷ 0x52 ∷ 1 ∷ k ∷ rest_bytes frame) (sym all.1.1.same)) in (
+    begins.whole ∙ (ap (λ (r : List ℕ). 0x4d ∷ 0x52 ∷ 2 ∷ header.0.0 ∷ r) all.0 ∙ ap (λ (k : ℕ). 0x4d ∷ 0x52 ∷ 2 ∷ k ∷ rest_bytes frame) (sym all.1.1.same)) in (
       spelled,
       record {
         from = may_send header.0.0 frame.from frame.body all.1.0 all.1.1;

@@ -10,7 +10,7 @@ abbrev batch : List ℕ
 batch = 1 ∷ 0 ∷ 1 ∷ 0 ∷ 0 ∷ 0 ∷ 0 ∷ 0 ∷ 0 ∷ 0 ∷ 0 ∷ 1 ∷ 0 ∷ 6 ∷ 1 ∷ 0 ∷ 0 ∷ 2 ∷ 0x68 ∷ 0x69 ∷ []
 
 abbrev header : List ℕ
-header = 0x4d ∷ 0x52 ∷ 1 ∷ 6 ∷ 0 ∷ 0 ∷ []
+header = 0x4d ∷ 0x52 ∷ 2 ∷ 6 ∷ 0 ∷ 0 ∷ []
 
 abbrev decided : ℕ → List ℕ
 decided hi = 0 ∷ 0 ∷ 0 ∷ 0 ∷ 0 ∷ 0 ∷ 0 ∷ 0 ∷ 0 ∷ 0 ∷ 0 ∷ 0 ∷ 0 ∷ 0 ∷ 0 ∷ 0 ∷ hi ∷ 1 ∷ 0 ∷ []
@@ -19,11 +19,11 @@ no_bytes : read_of ([]) ≡ Err (Short 0)
 unfolding kind_at bytes_at
 no_bytes = refl
 
-other_version : read_of (0x4d ∷ 0x52 ∷ 9 ∷ []) ≡ Err (BadVersion 9)
+older_version : read_of (0x4d ∷ 0x52 ∷ 1 ∷ []) ≡ Err (BadVersion 1)
 unfolding kind_at bytes_at
-other_version = refl
+older_version = refl
 
-no_kind : read_of (0x4d ∷ 0x52 ∷ 1 ∷ 20 ∷ []) ≡ Err (BadKind 20)
+no_kind : read_of (0x4d ∷ 0x52 ∷ 2 ∷ 20 ∷ []) ≡ Err (BadKind 20)
 unfolding kind_at bytes_at
 no_kind = refl
 

@@ -70,7 +70,7 @@ most_hops client = if client then 0 else 1
 unfoldable pub submit_at : Bool → Reader Body
 submit_at client =
     shown (λ x. Submit x.0 x.1.0 (record { 0 = x.1.1.0 }) x.1.1.1.0 x.1.1.1.1)
-    (both ring_at (both (within 0 (most_hops client) byte_at) (both byte_at (both (within 1 (2 ^ 63 - 1) (number_at w64)) (string_at 0 4096)))))
+    (both ring_at (both (within 0 (most_hops client) byte_at) (both byte_at (both (within 1 (2 ^ 63 - 1) (number_at w64)) (string_at 0 4608)))))
 
 unfoldable pub prepare_at : Reader Body
 prepare_at = shown (λ x. Prepare x.0 x.1.0 x.1.1) (both ring_at (both ballot_at inst_at))
@@ -206,7 +206,7 @@ kind_at spot = do
   magic ← in_frame (bytes_at 2 spot)
   ours ← unless (is_magic magic.0) BadMagic
   version ← in_frame (byte_at magic.1)
-  known ← unless (version.0 == 1) (BadVersion version.0)
+  known ← unless (version.0 == 2) (BadVersion version.0)
   kind ← in_frame (byte_at version.1)
   some ← unless (nat_le 1 kind.0 && nat_le kind.0 19) (BadKind kind.0)
   Ok kind

@@ -97,6 +97,6 @@ abbrev pub party_bytes : Party → List ℕ
 party_bytes (Node node) = 0 ∷ node.0 ∷ []
 party_bytes (Client client) = 1 ∷ client.0 ∷ []
 
--- the magic, version 1, the kind, the sender and the body
+-- the magic, version 2, the kind, the sender and the body
 abbrev pub frame_bytes : Frame → List ℕ
-frame_bytes frame = 0x4d ∷ 0x52 ∷ 1 ∷ kind_of_body frame.body ∷ (party_bytes frame.from ++ body_bytes frame.body)
+frame_bytes frame = 0x4d ∷ 0x52 ∷ 2 ∷ kind_of_body frame.body ∷ (party_bytes frame.from ++ body_bytes frame.body)

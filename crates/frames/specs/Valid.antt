@@ -56,7 +56,7 @@ AreRanges before (d ∷ ranges) = IsBehind before d.lo d.hi 0 d.value × AreRang
 -- ---- frames
 
 abbrev pub IsBody : Body → Type 0
-IsBody (Submit ring hops client seq command) = IsRing ring × (hops ≤ 1) × (1 ≤ seq) × (seq < 2 ^ 63) × (length command ≤ 4096)
+IsBody (Submit ring hops client seq command) = IsRing ring × (hops ≤ 1) × (1 ≤ seq) × (seq < 2 ^ 63) × (length command ≤ 4608)
 IsBody (Prepare ring ballot lo) = IsRing ring × IsBallot ballot × IsInst lo
 IsBody (Promise ring ballot lo hi trim votes) = IsRing ring × IsBallot ballot × IsRange lo hi × IsInst trim × (length votes ≤ 65535) × AreVotes nothing_before votes
 IsBody (Refuse ring ballot promise) = IsRing ring × IsBallot ballot × IsBallot promise

@@ -9,14 +9,8 @@ use crate::lists::{read_ranges, read_tuple, read_votes};
 use command_codec::CodecFault;
 use command_codec::parts::{read_ballot, read_inst, read_range, read_ring, read_value};
 use command_codec::reading::Cursor;
-use mrp_types::{ClientId, Octets, PartitionId};
+use mrp_types::{ClientId, Entry, Octets, PartitionId};
 use std::alloc::Global;
-
-/// The greatest number of a client's command.
-pub const LAST_SEQ: u64 = (1 << 63) - 1;
-
-/// The most bytes of a command.
-pub const COMMAND: usize = 4_096;
 
 // The most bytes of a part.
 const PART: usize = 16_384;
@@ -64,8 +58,8 @@ fn read_submit(alloc: Global, fields: &mut Cursor<'_>, client: bool) -> Result<B
     let ring = read_ring(fields)?;
     let hops = fields.byte_within(0, most_hops(client))?;
     let client = ClientId(fields.byte()?);
-    let seq = fields.u64_within(1, LAST_SEQ)?;
-    let command = fields.octets(alloc, 0, COMMAND)?;
+    let seq = fields.u64_within(1, Entry::LAST_SEQ)?;
+    let command = fields.octets(alloc, 0, Entry::COMMAND)?;
     Ok(Body::Submit {
         ring,
         hops,

@@ -15,7 +15,7 @@ pub enum Body {
         client: ClientId,
         /// The client's number for it, from 1 to 2^63 - 1.
         seq: u64,
-        /// At most 4,096 bytes, which aren't looked into.
+        /// At most `Entry::COMMAND` bytes, which aren't looked into.
         command: Octets,
     },
     /// Asks for a promise, and for the votes from `lo` on.

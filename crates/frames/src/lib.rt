@@ -9,6 +9,7 @@ mod frame;
 mod lists;
 mod reading;
 mod sent;
+mod share;
 mod sizes;
 mod valid;
 mod writing;

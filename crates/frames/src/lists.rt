@@ -9,15 +9,14 @@ ghost use Rattle.frames.specs.Grammar.{vote_at, votes_at, decided_at, ranges_at,
 
 use crate::BoxedTuple;
 use command_codec::CodecFault;
+use command_codec::limits::LAST_RING;
 use command_codec::parts::{read_ballot, read_range, read_value};
 use command_codec::reading::Cursor;
 use mrp_types::{Ballot, Decided, END, Inst, Ranges, RingId, Tuple, Value, Voted, Votes};
 use std::alloc::Global;
 
-// The most rings of a tuple, and the greatest number of a ring.
+// The most rings of a tuple.
 const RINGS: u8 = 16;
-
-const LAST_RING: u8 = 15;
 
 /// What the range before leaves to ask of the next one: where it may begin, and whether a Skip of this ballot there
 /// would be one range with it.

@@ -18,10 +18,11 @@ use std::alloc::Global;
 /// The most bytes of a frame.
 pub const MOST: usize = 32_768;
 
-// The greatest number of a node, the version, and the greatest kind.
-const LAST_NODE: u8 = 31;
+/// The version with which frames are written, the only one that is read.
+pub const VERSION: u8 = 2;
 
-const VERSION: u8 = 1;
+// The greatest number of a node, and the greatest kind.
+const LAST_NODE: u8 = 31;
 
 const LAST_KIND: u8 = 19;
 

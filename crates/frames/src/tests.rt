@@ -8,7 +8,7 @@ const FRAMES: [&[&[u8]]; 19] = [
     // Submit of client 255: ring 15, not passed on, number 2^63 - 1.
     &[
         &[77, 82],
-        &[1],
+        &[2],
         &[1],
         &[1],
         &[255],
@@ -22,7 +22,7 @@ const FRAMES: [&[&[u8]]; 19] = [
     // Prepare of node 31: ring 3, ballot 2^48 - 1, from instance 2^40 - 1.
     &[
         &[77, 82],
-        &[1],
+        &[2],
         &[2],
         &[0],
         &[31],
@@ -33,7 +33,7 @@ const FRAMES: [&[&[u8]]; 19] = [
     // Promise: a Skip for 0 to 3 in ballot 1, one for 4 to 5 in ballot 2, and a batch at 9.
     &[
         &[77, 82],
-        &[1],
+        &[2],
         &[3],
         &[0],
         &[1],
@@ -64,7 +64,7 @@ const FRAMES: [&[&[u8]]; 19] = [
     // Refuse.
     &[
         &[77, 82],
-        &[1],
+        &[2],
         &[4],
         &[0],
         &[1],
@@ -75,7 +75,7 @@ const FRAMES: [&[&[u8]]; 19] = [
     // Accept of a Skip for many instances.
     &[
         &[77, 82],
-        &[1],
+        &[2],
         &[5],
         &[0],
         &[1],
@@ -90,7 +90,7 @@ const FRAMES: [&[&[u8]]; 19] = [
     // Decide of a batch.
     &[
         &[77, 82],
-        &[1],
+        &[2],
         &[6],
         &[0],
         &[1],
@@ -106,7 +106,7 @@ const FRAMES: [&[&[u8]]; 19] = [
     // Fetch.
     &[
         &[77, 82],
-        &[1],
+        &[2],
         &[7],
         &[0],
         &[1],
@@ -116,7 +116,7 @@ const FRAMES: [&[&[u8]]; 19] = [
     // Chosen: a batch at 0 and a Skip for 1 to 2.
     &[
         &[77, 82],
-        &[1],
+        &[2],
         &[8],
         &[0],
         &[1],
@@ -136,7 +136,7 @@ const FRAMES: [&[&[u8]]; 19] = [
     // Trimmed.
     &[
         &[77, 82],
-        &[1],
+        &[2],
         &[9],
         &[0],
         &[1],
@@ -146,7 +146,7 @@ const FRAMES: [&[&[u8]]; 19] = [
     // AskSafe.
     &[
         &[77, 82],
-        &[1],
+        &[2],
         &[10],
         &[0],
         &[1],
@@ -156,7 +156,7 @@ const FRAMES: [&[&[u8]]; 19] = [
     // Safe.
     &[
         &[77, 82],
-        &[1],
+        &[2],
         &[11],
         &[0],
         &[1],
@@ -167,7 +167,7 @@ const FRAMES: [&[&[u8]]; 19] = [
     // TrimTo.
     &[
         &[77, 82],
-        &[1],
+        &[2],
         &[12],
         &[0],
         &[1],
@@ -177,7 +177,7 @@ const FRAMES: [&[&[u8]]; 19] = [
     // AskCheckpoint.
     &[
         &[77, 82],
-        &[1],
+        &[2],
         &[13],
         &[0],
         &[1],
@@ -187,7 +187,7 @@ const FRAMES: [&[&[u8]]; 19] = [
     // HaveCheckpoint of two rings.
     &[
         &[77, 82],
-        &[1],
+        &[2],
         &[14],
         &[0],
         &[1],
@@ -202,7 +202,7 @@ const FRAMES: [&[&[u8]]; 19] = [
     // AskPart.
     &[
         &[77, 82],
-        &[1],
+        &[2],
         &[15],
         &[0],
         &[1],
@@ -216,7 +216,7 @@ const FRAMES: [&[&[u8]]; 19] = [
     // Part: the last three bytes of 16,387.
     &[
         &[77, 82],
-        &[1],
+        &[2],
         &[16],
         &[0],
         &[1],
@@ -233,7 +233,7 @@ const FRAMES: [&[&[u8]]; 19] = [
     // Gone.
     &[
         &[77, 82],
-        &[1],
+        &[2],
         &[17],
         &[0],
         &[1],
@@ -251,7 +251,7 @@ const FRAMES: [&[&[u8]]; 19] = [
     // Reply.
     &[
         &[77, 82],
-        &[1],
+        &[2],
         &[18],
         &[0],
         &[1],
@@ -262,12 +262,12 @@ const FRAMES: [&[&[u8]]; 19] = [
         &[6],
     ],
     // Hello.
-    &[&[77, 82], &[1], &[19], &[0], &[1]],
+    &[&[77, 82], &[2], &[19], &[0], &[1]],
 ];
 
 // The worked frame: node 1 tells that instance 0 of ring 0 holds a batch.
 const WORKED: [u8; 46] = [
-    77, 82, 1, 6, 0, 1, 0, 0, 0, 0, 0, 0, 0, 0, 0, 0, 0, 0, 0, 0, 0, 0, 1, 1, 0, 20, 1, 0, 1, 0, 0,
+    77, 82, 2, 6, 0, 1, 0, 0, 0, 0, 0, 0, 0, 0, 0, 0, 0, 0, 0, 0, 0, 0, 1, 1, 0, 20, 1, 0, 1, 0, 0,
     0, 0, 0, 0, 0, 0, 1, 0, 6, 1, 0, 0, 2, 104, 105,
 ];
 
@@ -287,6 +287,20 @@ fn joined(alloc: Global, fields: &[&[u8]]) -> Result<Octets, Fail> {
 }
 
 #[test]
+fn shared_frames(rt: HostRuntime) -> Result<(), Fail> {
+    let alloc = rt.alloc();
+    for (i, fields) in FRAMES.iter().enumerate() {
+        let bytes = joined(alloc, fields)?;
+        let frame = read(alloc, bytes.bytes()).ok().ok_or("a frame")?;
+        let copy = frame.share(alloc)?;
+        assert!(rt; copy.is_valid(), "the frame at {i}");
+        let written = write(alloc, &copy)?;
+        assert_eq!(rt; written.bytes(), bytes.bytes(), "the frame at {i}");
+    }
+    Ok(())
+}
+
+#[test]
 fn frames_are_written_as_they_were_read(rt: HostRuntime) -> Result<(), Fail> {
     let alloc = rt.alloc();
     for (i, fields) in FRAMES.iter().enumerate() {
@@ -297,35 +311,6 @@ fn frames_are_written_as_they_were_read(rt: HostRuntime) -> Result<(), Fail> {
         assert_eq!(rt; again.bytes(), bytes.bytes(), "the frame at {i}");
         let kind = kind_of(bytes.bytes()).ok_or("a kind")?;
         assert_eq!(rt; usize::from(kind), i + 1);
-    }
-    Ok(())
-}
-
-#[test]
-fn cut_frames_are_short_at_the_field_that_is_cut(rt: HostRuntime) -> Result<(), Fail> {
-    let alloc = rt.alloc();
-    for fields in FRAMES {
-        let mut bytes = Octets::new(alloc);
-        for field in fields {
-            let at = bytes.len();
-            for byte in *field {
-                let short = is_refused(alloc, bytes.bytes(), FrameFault::Short(at));
-                assert!(rt; short, "the field at {at} of {fields:?}");
-                bytes.push(*byte)?;
-            }
-        }
-    }
-    Ok(())
-}
-
-#[test]
-fn bytes_left_over(rt: HostRuntime) -> Result<(), Fail> {
-    let alloc = rt.alloc();
-    for fields in FRAMES {
-        let mut bytes = joined(alloc, fields)?;
-        let left = FrameFault::Left(bytes.len());
-        bytes.push(0)?;
-        assert!(rt; is_refused(alloc, bytes.bytes(), left), "{fields:?}");
     }
     Ok(())
 }
@@ -350,41 +335,6 @@ fn the_worked_frame(rt: HostRuntime) -> Result<(), Fail> {
     Ok(())
 }
 
-// Changes of the worked frame: the position of a byte, the byte, and the fault.
-#[test]
-fn changes_of_the_worked_frame(rt: HostRuntime) -> Result<(), Fail> {
-    let faults = [
-        (0, 0x4e, FrameFault::BadMagic),
-        (1, 0x53, FrameFault::BadMagic),
-        (2, 9, FrameFault::BadVersion(9)),
-        (2, 0, FrameFault::BadVersion(0)),
-        (3, 0, FrameFault::BadKind(0)),
-        (3, 20, FrameFault::BadKind(20)),
-        // Only a Submit has a client as its sender.
-        (4, 1, FrameFault::BadField(4)),
-        (4, 2, FrameFault::BadField(4)),
-        (5, 32, FrameFault::BadField(5)),
-        (6, 16, FrameFault::BadField(6)),
-        // Instance 2^40, an empty range, and a batch for two instances.
-        (9, 1, FrameFault::BadField(7)),
-        (22, 0, FrameFault::BadField(15)),
-        (22, 2, FrameFault::BadField(26)),
-        // No length, one past a value's, and one past the end.
-        (25, 0, FrameFault::BadField(26)),
-        (24, 33, FrameFault::BadField(24)),
-        (25, 21, FrameFault::Short(26)),
-        // The value is no batch.
-        (26, 2, FrameFault::BadField(26)),
-        (28, 2, FrameFault::BadField(26)),
-    ];
-    for (at, byte, want) in faults {
-        let mut bytes = WORKED;
-        *bytes.get_mut(at).ok_or("a byte")? = byte;
-        assert!(rt; is_refused(rt.alloc(), &bytes, want), "{byte} at {at}");
-    }
-    Ok(())
-}
-
 #[test]
 fn lengths_at_the_ends(rt: HostRuntime) -> Result<(), Fail> {
     let alloc = rt.alloc();
@@ -394,118 +344,6 @@ fn lengths_at_the_ends(rt: HostRuntime) -> Result<(), Fail> {
     assert!(rt; is_refused(alloc, &full, FrameFault::BadMagic));
     let longer = vec![in alloc; 0; 32_769]?;
     assert!(rt; is_refused(alloc, &longer, FrameFault::TooLong));
-    Ok(())
-}
-
-// A Chosen of Skip ranges, each by its ends.
-fn chosen(alloc: Global, ranges: &[(u8, u8)]) -> Result<Octets, Fail> {
-    let count = u8::try_from(ranges.len()).ok().ok_or("a count")?;
-    let mut bytes = Octets::new(alloc);
-    bytes.extend(&[0x4d, 0x52, 1, 8, 0, 1, 0, 0, count])?;
-    for (lo, hi) in ranges {
-        bytes.extend(&[0, 0, 0, 0, 0, 0, 0, *lo])?;
-        bytes.extend(&[0, 0, 0, 0, 0, 0, 0, *hi])?;
-        bytes.extend(&[0, 1, 0])?;
-    }
-    Ok(bytes)
-}
-
-#[test]
-fn decided_ranges_that_are_refused(rt: HostRuntime) -> Result<(), Fail> {
-    let alloc = rt.alloc();
-    let rows: [(&[(u8, u8)], FrameFault); 6] = [
-        (&[], FrameFault::BadField(7)),
-        (&[(0, 0)], FrameFault::BadField(17)),
-        (&[(2, 1)], FrameFault::BadField(17)),
-        // Out of order, overlapping, and two that are one range.
-        (&[(3, 5), (0, 2)], FrameFault::BadField(28)),
-        (&[(0, 3), (2, 5)], FrameFault::BadField(28)),
-        (&[(0, 2), (2, 5)], FrameFault::BadField(46)),
-    ];
-    for (ranges, want) in rows {
-        let bytes = chosen(alloc, ranges)?;
-        assert!(rt; is_refused(alloc, bytes.bytes(), want), "{ranges:?}");
-    }
-    let apart = chosen(alloc, &[(0, 2), (3, 5)])?;
-    assert!(rt; read(alloc, apart.bytes()).is_ok());
-    Ok(())
-}
-
-// A Promise of votes for Skip, each by its ends and its ballot.
-fn promise(alloc: Global, votes: &[(u8, u8, u8)]) -> Result<Octets, Fail> {
-    let count = u8::try_from(votes.len()).ok().ok_or("a count")?;
-    let mut bytes = Octets::new(alloc);
-    bytes.extend(&[0x4d, 0x52, 1, 3, 0, 1, 0, 0, 0, 0, 0, 0, 0, 0, 2])?;
-    bytes.extend(&[0; 15])?;
-    bytes.extend(&[9, 0, 0, 0, 0, 0, 0, 0, 0, 0, count])?;
-    for (lo, hi, ballot) in votes {
-        bytes.extend(&[0, 0, 0, 0, 0, 0, 0, *lo])?;
-        bytes.extend(&[0, 0, 0, 0, 0, 0, 0, *hi])?;
-        bytes.extend(&[0, 0, 0, 0, 0, 0, 0, *ballot, 0, 1, 0])?;
-    }
-    Ok(bytes)
-}
-
-#[test]
-fn votes_that_are_refused(rt: HostRuntime) -> Result<(), Fail> {
-    let alloc = rt.alloc();
-    let rows: [(&[(u8, u8, u8)], FrameFault); 4] = [
-        (&[(1, 1, 1)], FrameFault::BadField(49)),
-        (&[(3, 5, 1), (0, 2, 1)], FrameFault::BadField(68)),
-        (&[(0, 3, 1), (2, 5, 2)], FrameFault::BadField(68)),
-        (&[(0, 2, 1), (2, 4, 1)], FrameFault::BadField(94)),
-    ];
-    for (votes, want) in rows {
-        let bytes = promise(alloc, votes)?;
-        assert!(rt; is_refused(alloc, bytes.bytes(), want), "{votes:?}");
-    }
-    let none = promise(alloc, &[])?;
-    assert!(rt; read(alloc, none.bytes()).is_ok());
-    let ballots = promise(alloc, &[(0, 2, 1), (2, 4, 2)])?;
-    assert!(rt; read(alloc, ballots.bytes()).is_ok());
-    Ok(())
-}
-
-// A byte of a frame of this kind is another: its position, the byte, and where the fault is.
-#[test]
-fn fields_out_of_their_range(rt: HostRuntime) -> Result<(), Fail> {
-    let alloc = rt.alloc();
-    let rows = [
-        // Hops of a client's command, number 2^63, and a command of 4,098 bytes.
-        (1_usize, 7, 1, 7),
-        (1, 9, 128, 9),
-        (1, 17, 16, 17),
-        // Ballot 2^48, and instance 2^40.
-        (2, 8, 1, 7),
-        (2, 17, 1, 15),
-        (4, 16, 1, 15),
-        (7, 9, 1, 7),
-        (9, 9, 1, 7),
-        (11, 17, 1, 15),
-        (12, 9, 1, 7),
-        // Tuples: no ring, 17 rings, ring 16, rings that don't increase, and an instance past the end.
-        (14, 14, 0, 14),
-        (14, 14, 17, 14),
-        (14, 15, 16, 15),
-        (14, 15, 15, 24),
-        (14, 32, 1, 25),
-        // Parts: one byte too many, one too few, and bytes behind the end.
-        (16, 41, 4, 40),
-        (16, 41, 2, 40),
-        (16, 31, 4, 40),
-        // A reply of 16,385 bytes.
-        (18, 16, 64, 16),
-    ];
-    for (kind, at, byte, fault) in rows {
-        let fields = FRAMES.get(kind.saturating_sub(1)).ok_or("a frame")?;
-        let mut bytes = joined(alloc, fields)?.bytes().to_vec(alloc)?;
-        *bytes.get_mut(at).ok_or("a byte")? = byte;
-        let want = FrameFault::BadField(fault);
-        assert!(rt;
-            is_refused(alloc, &bytes, want),
-            "{byte} at {at} of kind {kind}"
-        );
-    }
     Ok(())
 }
 
@@ -584,7 +422,7 @@ fn kinds_of_bytes(rt: HostRuntime) {
     let rows: [(&[u8], Option<u8>); 5] = [
         (&[], None),
         (&[0x4d, 0x52, 1], None),
-        (&[0x4d, 0x52, 1, 6], Some(6)),
+        (&[0x4d, 0x52, 2, 6], Some(6)),
         (&[0, 0, 0, 255, 7], Some(255)),
         (&WORKED, Some(6)),
     ];

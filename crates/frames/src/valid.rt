@@ -7,24 +7,19 @@ ghost use Rattle.frames.specs.Ranges.{nothing_before, may_skip};
 ghost use Rattle.frames.specs.Spelling.{kind_of_body};
 ghost use Rattle.frames.specs.Valid.{IsFrame, MaySend, IsBody, IsRange, IsValueOf, IsBehind, IsBallot, AreVotes, AreRanges};
 
-use crate::bodies::{COMMAND, LAST_SEQ, REPLY, length_of_part};
+use crate::bodies::{REPLY, length_of_part};
 use crate::lists::{Before, is_skip};
 use crate::reading::MOST;
 use crate::sizes::frame_size;
 use crate::{Body, Frame};
 use command_codec::is_batch;
-use mrp_types::{Ballot, Decided, END, Inst, Octets, Party, RingId, Tuple, Value, Voted};
+use command_codec::limits::{LAST_BALLOT, LAST_RING, VALUE};
+use mrp_types::{Ballot, Decided, END, Entry, Inst, Octets, Party, RingId, Tuple, Value, Voted};
 
-// Nodes, rings and ballots are below these.
+// Nodes have numbers below this.
 const NODES: u8 = 32;
 
-const RINGS: u8 = 16;
-
-const BALLOTS: Ballot = 1 << 48;
-
-// The most bytes of a value, and the most ranges of a list.
-const VALUE: usize = 8_192;
-
+// The most ranges of a list.
 const RANGES: usize = 65_535;
 
 impl Frame {
@@ -61,9 +56,9 @@ fn is_body(body: &Body) -> bool
         } => is_ring(*ring)
             && *hops <= 1
             && *seq >= 1
-            && *seq <= LAST_SEQ
-            && command.len() <= COMMAND,
-        Body::Prepare { ring, ballot, lo } => is_ring(*ring) && *ballot < BALLOTS && *lo < END,
+            && *seq <= Entry::LAST_SEQ
+            && command.len() <= Entry::COMMAND,
+        Body::Prepare { ring, ballot, lo } => is_ring(*ring) && *ballot <= LAST_BALLOT && *lo < END,
         Body::Promise {
             ring,
             ballot,
@@ -73,7 +68,7 @@ fn is_body(body: &Body) -> bool
             votes,
         } => {
             is_ring(*ring)
-                && *ballot < BALLOTS
+                && *ballot <= LAST_BALLOT
                 && is_range(*lo, *hi)
                 && *trim < END
                 && are_votes(votes.items())
@@ -82,7 +77,7 @@ fn is_body(body: &Body) -> bool
             ring,
             ballot,
             promise,
-        } => is_ring(*ring) && *ballot < BALLOTS && *promise < BALLOTS,
+        } => is_ring(*ring) && *ballot <= LAST_BALLOT && *promise <= LAST_BALLOT,
         Body::Accept {
             ring,
             ballot,
@@ -92,7 +87,7 @@ fn is_body(body: &Body) -> bool
             ..
         } => {
             is_ring(*ring)
-                && *ballot < BALLOTS
+                && *ballot <= LAST_BALLOT
                 && is_range(*lo, *hi)
                 && is_value_of(*lo, *hi, value)
         }
@@ -160,7 +155,7 @@ fn is_part(offset: u64, total: u64, bytes: &Octets) -> bool
 fn is_ring(ring: RingId) -> bool
     ensures { IsTrue result ↔ (ring.0 < 16) }
 {
-    ring.0 < RINGS
+    ring.0 <= LAST_RING
 }
 
 fn is_range(lo: Inst, hi: Inst) -> bool
@@ -203,7 +198,7 @@ fn follow_as_votes(votes: &[Voted]) -> bool
 fn is_vote(before: Before, vote: &Voted) -> bool
     ensures { IsTrue result ↔ (IsBehind before vote.now.lo vote.now.hi vote.now.ballot vote.now.value × IsBallot vote.now.ballot) }
 {
-    is_behind(before, vote.lo, vote.hi, vote.ballot, &vote.value) && vote.ballot < BALLOTS
+    is_behind(before, vote.lo, vote.hi, vote.ballot, &vote.value) && vote.ballot <= LAST_BALLOT
 }
 
 fn are_ranges(ranges: &[Decided]) -> bool

@@ -9,6 +9,7 @@ ghost use Rattle.frames.specs.Valid.{IsFrame, IsBody};
 ghost use Rattle.mrp_types.specs.declared.voted.Voted.{Voted as SomeVoted};
 ghost use Rattle.mrp_types.specs.declared.voted.Decided.{Decided as SomeDecided};
 
+use crate::reading::VERSION;
 use crate::{Body, Frame};
 use command_codec::writing::{put_string16, put_u8, put_u16, put_u32, put_u64, put_value};
 use mrp_types::{Decided, Inst, Memory, Octets, Party, RingId, Tuple, Voted};
@@ -20,7 +21,7 @@ pub fn write(alloc: Global, frame: &Frame) -> Result<Octets, Memory>
     ensures { IfOk result (λ bytes. bytes ≡ frame_bytes frame.now) }
 {
     let mut out = Octets::new(alloc);
-    out.extend(&[0x4d, 0x52, 1, kind_number(&frame.body)])?;
+    out.extend(&[0x4d, 0x52, VERSION, kind_number(&frame.body)])?;
     put_party(&mut out, frame.from)?;
     put_body(&mut out, &frame.body)?;
     Ok(out)

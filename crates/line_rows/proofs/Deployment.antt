@@ -54,6 +54,7 @@ valid = record {
       },
       tt,
     );
+    rounds = ((omega arith, omega arith), tt);
   };
   partitions = record {
     few = (omega arith, omega arith);

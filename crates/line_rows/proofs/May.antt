@@ -16,10 +16,10 @@ use Rattle.state_laws.proofs.Examples.{bytes_by}
 use Rattle.protocol.specs.Client.{MayBeAsked}
 use Rattle.frames.specs.declared.sent.Sent.{Sent}
 use Rattle.quorums.specs.Groups.{Has}
-use Rattle.checkpoint.specs.Checks.{Checkpoint}
+use Rattle.checkpoint.specs.Checkpoints.{Checkpoint}
 use Rattle.bare_world.specs.Worlds.{Host, Up, Down, World, Happening, nothing, happens}
 use Rattle.bare_world.specs.Runs.{MayHappen, MayRun, MayOpenAt}
-use Rattle.line_rows.specs.Moves.{checks_of, Move, Open, Next, Tick, Lead, Ask, Fall, opens_with, opens_host, taken_by, client_of, taken_next, asked_by, happenings_of, moved_on, with_happening, happenings, journal_of}
+use Rattle.line_rows.specs.Moves.{checkpoints_of, Move, Open, Next, Tick, Lead, Ask, Fall, opens_with, opens_host, taken_by, client_of, taken_next, asked_by, happenings_of, moved_on, with_happening, happenings, journal_of}
 use Rattle.line_rows.specs.Row.{config, moves, log}
 
 -- what is asked may be asked
@@ -45,7 +45,7 @@ module _ (c : Config) (w : World) where
       by_table None t newest n = tt
       by_table (Some table) t (Some newest) n = tt
       by_table (Some table) t None n = (
-        subst (λ (host : Host). MayOpenAt c id false (journal_of id durable) (checks_of durable) host) (sym e) (record {
+        subst (λ (host : Host). MayOpenAt c id false (journal_of id durable) (checkpoints_of durable) host) (sym e) (record {
           node = (table, t);
           epoch = refl;
           rings = refl;

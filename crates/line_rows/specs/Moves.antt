@@ -12,7 +12,7 @@ use Rattle.command_codec.specs.declared.command.Command.{Command}
 use Rattle.disk_model.specs.declared.area.Area.TheVariants.{Journal0}
 use Rattle.frames.specs.declared.sent.Sent.{Sent}
 use Rattle.vote_journal.specs.Journal.{Journal}
-use Rattle.checkpoint.specs.Checks.{Checkpoint, Checks}
+use Rattle.checkpoint.specs.Checkpoints.{Checkpoint, Checkpoints}
 use Rattle.protocol.specs.Lines.{Crash}
 use Rattle.protocol.specs.Node.{Ticks, Takes, Leads}
 use Rattle.bare_world.specs.Worlds.{Possible, Host, Up, Down, World, Happening, Steps, Crashes, Opens, Asks, ClientTakes, happens}
@@ -31,12 +31,12 @@ pub data Move : Type 0 where
 abbrev pub journal_of : NodeId → Possible → Journal
 journal_of id s = record { id = id; log = record { area = Journal0; generation = 1; end = 32; base_end = 32; limit = 1048576 }; state = record { epoch = s.state.epoch + 1; rings = s.state.rings } }
 
-abbrev pub checks_of : Possible → Checks
-checks_of s = record { area = None; generation = 0; newest = s.newest }
+abbrev pub checkpoints_of : Possible → Checkpoints
+checkpoints_of s = record { area = None; generation = 0; from = 0; newest = s.newest }
 
 abbrev pub opens_with : NodeId → Option NodeTable → Possible → Option Checkpoint → List Happening
 opens_with id None s newest = []
-opens_with id (Some table) s None = Opens id false (journal_of id s) (checks_of s) ∷ []
+opens_with id (Some table) s None = Opens id false (journal_of id s) (checkpoints_of s) ∷ []
 opens_with id (Some table) s (Some newest) = []
 
 abbrev pub opens_host : Config → NodeId → Host → List Happening

@@ -46,7 +46,7 @@ config = record {
   journal = 1048576;
   nodes = (record { id = node 0; address = address 49 48 }) ∷ (record { id = node 1; address = address 49 49 }) ∷ (record { id = node 2; address = address 49 50 }) ∷ [];
   clients = (record { id = client 0; address = address 50 48 }) ∷ [];
-  rings = (record { id = ring 0; acceptors = node 0 ∷ node 1 ∷ node 2 ∷ [] }) ∷ [];
+  rings = (record { id = ring 0; acceptors = node 0 ∷ node 1 ∷ node 2 ∷ []; m = 1 }) ∷ [];
   partitions = (record { id = partition 0; replicas = node 0 ∷ node 1 ∷ node 2 ∷ []; rings = ring 0 ∷ []; home = ring 0; from = []; to = []; logs = log 0 ∷ []; trim_quorum = 2; recovery_quorum = 2 }) ∷ [];
 }
 

@@ -16,19 +16,19 @@ use Rattle.mrp_config.specs.declared.tables.PartitionTable.{PartitionTable}
 use Rattle.frames.specs.declared.body.Body.{Body}
 use Rattle.frames.specs.declared.body.Body.TheVariants as bodies
 use Rattle.protocol.specs.Lines.{Line}
-use Rattle.protocol.specs.Client.{with_part, have_all, asked_first, Asked, ClientView, ClientDid, idles, submit_to, sends_it, asks_on, asks_beside, asks, ticks_for, client_ticks, answers, gathered, replied_with, replied_by, replied_for, replied, client_takes, fits, has_part}
+use Rattle.protocol.specs.Client.{with_part, have_all, asked_first, Asked, ClientView, ClientEffects, idles, submit_to, sends_it, asks_on, asks_beside, asks, ticks_for, client_ticks, answers, gathered, replied_with, replied_by, replied_for, replied, client_takes, fits, has_part}
 use Rattle.recovery_lines.specs.Ties.{IsSaid}
 use Rattle.recovery_lines.proofs.Merging.{IsStill}
 
-pub record IsQuiet (c : Config) (did : ClientDid) : Type 0 where
-  pub still : AllByRecursion (IsStill c) did.lines
-  pub said : (lines : List Line) → AllByRecursion (IsSaid c lines) did.frames
+pub record IsQuiet (c : Config) (effects : ClientEffects) : Type 0 where
+  pub still : AllByRecursion (IsStill c) effects.lines
+  pub said : (lines : List Line) → AllByRecursion (IsSaid c lines) effects.frames
 
 module _ (c : Config) where
   quiet_idles : (v : ClientView) → IsQuiet c (idles v)
   quiet_idles v = record { still = tt; said = λ ls. tt }
 
-  quiet_if : (b : Bool) (x y : ClientDid) → IsQuiet c x → IsQuiet c y → IsQuiet c (if b then x else y)
+  quiet_if : (b : Bool) (x y : ClientEffects) → IsQuiet c x → IsQuiet c y → IsQuiet c (if b then x else y)
   quiet_if true x y p q = p
   quiet_if false x y p q = q
 

@@ -7,6 +7,7 @@ use Rattle.mrp_types.specs.declared.id.NodeId.{NodeId}
 use Rattle.mrp_config.specs.Config.{Config, has_node}
 use Rattle.mrp_config.specs.Walk.{is_among, numbers_of_nodes, node_ids, ring_ids}
 use Rattle.mrp_config.specs.Valid.{IsValid, IsPartition, AreQuorums, AreApart, AreAllApart, replicas_of}
+use Rattle.mrp_config.proofs.Rounds.{round_in_range}
 use Rattle.mrp_config.specs.declared.tables.PartitionTable.{PartitionTable}
 use Rattle.quorums.specs.Groups.{Has}
 use Rattle.protocol.specs.Opening.{partition_of}
@@ -41,7 +42,7 @@ found (q ∷ ps) p node apart (inr h) replica =
 
 pub valid_fits : (c : Config) → IsValid c → IsFit c
 valid_fits c v = record {
-  rounds = λ ring. omega (arith, v.m.0);
+  rounds = λ ring. (round_in_range c v (record { 0 = ring })).0;
   checkpoint = omega (arith, v.checkpoint.0);
   meet = λ p h. (all_has (λ (q : PartitionTable). AreQuorums (length q.replicas) q.trim_quorum q.recovery_quorum) c.partitions p v.partitions.quorums h).meet;
   some = λ p h. let s = (all_has (IsPartition (node_ids c.nodes) (ring_ids c.rings)) c.partitions p v.partitions.each h).some in omega (arith, s.0);

@@ -31,7 +31,7 @@ use Rattle.faithful.proofs.Growing.{past_more}
 use Rattle.faithful.proofs.Quorum.{all_has, some_reaches_is, entry_reaches}
 use Rattle.recovery_lines.specs.Ties.{IsRightLine, AreRight, IsCovered, ReachesCovered, KeptLines, BodySaid, PartySaid, IsSaid, ReplicaLines, ServiceLines, StageLines, ReadyLines, newest_of}
 use Rattle.recovery_lines.proofs.Right.{right_line}
-use Rattle.step_lines.specs.Dids.{Agrees, AllAgree, KeptFor}
+use Rattle.step_lines.specs.Effects.{Agrees, AllAgree, KeptFor}
 use Rattle.step_lines.proofs.Ending.{kept_for}
 use Rattle.line_runs.specs.Invariant.{node, latest_first, PossibleLines, UpLines, HostLines, WorldLines}
 use Rattle.line_runs.specs.Laws.{HaveOneValue, IsRun, lines_of, host_of, IsPossible, trim_told, NodeSent, KeepsTold, StartsPast}
@@ -196,7 +196,7 @@ possible_lines c hs r n s is = go (host_of c hs n) ((run_lines c hs r).hosts n) 
   where
     go : (host : Host) → HostLines c (past [] (lines_of c hs)) n host → IsPossible host s → PossibleLines c (past [] (lines_of c hs)) n s
     go (Up view) u e = subst (λ (q : Possible). PossibleLines c (past [] (lines_of c hs)) n q) (sym e)
-        (record { kept = kept_for c (past [] (lines_of c hs)) (node n) view.journal.state.epoch view.checks.newest view.service u.replica; covered = u.covered })
+        (record { kept = kept_for c (past [] (lines_of c hs)) (node n) view.journal.state.epoch view.checkpoints.newest view.service u.replica; covered = u.covered })
     go (Down durable pending) d (inl e) = subst (λ (q : Possible). PossibleLines c (past [] (lines_of c hs)) n q) (sym e) d.0
     go (Down durable pending) d (inr e) = subst (λ (q : Possible). PossibleLines c (past [] (lines_of c hs)) n q) (sym e) d.1
 
@@ -240,9 +240,9 @@ frame_covered c hs r sent from to body ring trim has is e = go body (body_said c
 -- ---- ready replicas
 
 pub ready_lines : (c : Config) (hs : List Happening) → IsRun c hs → (n : ℕ) (view : View) (service : Service) (standing : Standing) → host_of c hs n ≡ Up view → view.service ≡ Some service → service.stage ≡ Ready standing
-    → ReadyLines c (latest_first (lines_of c hs)) (node n) view.checks.newest service.partition standing.tuple standing.delivered
+    → ReadyLines c (latest_first (lines_of c hs)) (node n) view.checkpoints.newest service.partition standing.tuple standing.delivered
 ready_lines c hs r n view service standing up there is =
     let u : UpLines c (past [] (lines_of c hs)) n view = subst (λ (host : Host). HostLines c (past [] (lines_of c hs)) n host) up ((run_lines c hs r).hosts n) in
-    let s : ServiceLines c (past [] (lines_of c hs)) (node n) view.journal.state.epoch view.checks.newest service =
-    subst (λ (o : Option Service). ReplicaLines c (past [] (lines_of c hs)) (node n) view.journal.state.epoch view.checks.newest o) there u.replica in
-    subst (λ (st : Stage). StageLines c (past [] (lines_of c hs)) (node n) view.journal.state.epoch view.checks.newest service.partition st) is s.stage
+    let s : ServiceLines c (past [] (lines_of c hs)) (node n) view.journal.state.epoch view.checkpoints.newest service =
+    subst (λ (o : Option Service). ReplicaLines c (past [] (lines_of c hs)) (node n) view.journal.state.epoch view.checkpoints.newest o) there u.replica in
+    subst (λ (st : Stage). StageLines c (past [] (lines_of c hs)) (node n) view.journal.state.epoch view.checkpoints.newest service.partition st) is s.stage

@@ -11,17 +11,17 @@ use Rattle.mrp_config.specs.Config.{Config}
 use Rattle.mrp_config.specs.declared.tables.PartitionTable.{PartitionTable}
 use Rattle.frames.specs.declared.frame.Frame.{Frame}
 use Rattle.frames.specs.declared.sent.Sent.{Sent}
-use Rattle.checkpoint.specs.Checks.{Checkpoint, Checks}
+use Rattle.checkpoint.specs.Checkpoints.{Checkpoint, Checkpoints}
 use Rattle.vote_state.specs.State.{State, no_votes}
 use Rattle.vote_state.specs.declared.ring.RingState.{RingState}
 use Rattle.vote_journal.specs.Journal.{Journal}
 use Rattle.protocol.specs.Lines.{Line, Cause}
 use Rattle.protocol.specs.Lines as line
-use Rattle.protocol.specs.Client.{ClientDid, asks, client_ticks, client_takes}
+use Rattle.protocol.specs.Client.{ClientEffects, asks, client_ticks, client_takes}
 use Rattle.protocol.specs.Opening.{partition_of, parts_of, opened}
 use Rattle.protocol.specs.Node.{View, Event, Ticks, Takes, Leads, Stepped}
 use Rattle.protocol.specs.Step.{step}
-use Rattle.bare_world.specs.Worlds.{Possible, Host, Up, Down, World, Happening, Steps, Breaks, Crashes, Opens, Fails, Asks, ClientTicks, ClientTakes, Shows, Lists, chosen, possible_of, happens, steps_as, breaks_as, crashes_as, opens_as, fails_as, client_does, state_of_host, with_lines}
+use Rattle.bare_world.specs.Worlds.{Possible, Host, Up, Down, World, Happening, Steps, Breaks, Crashes, Opens, Fails, Asks, ClientTicks, ClientTakes, Shows, Lists, chosen, possible_of, happens, steps_as, breaks_as, crashes_as, opens_as, fails_as, client_step, state_of_host, with_lines}
 use Rattle.bare_world.specs.Runs.{MayCome, MayOpenAt, MayLeaveAt, MayHappen, run, MayRun}
 use Rattle.faithful.specs.Scanners.{past}
 use Rattle.faithful.proofs.Growing.{past_more}
@@ -29,7 +29,7 @@ use Rattle.faithful.proofs.Quorum.{all_has}
 use Rattle.recovery_lines.specs.Ties.{IsFit, AreCovered, IsCovered, PartySaid, IsSaid, ViewLines, StepLines, KeptLines, IsPlaced, ReplicaLines, rings_in}
 use Rattle.recovery_lines.proofs.Saving.{kept_next}
 use Rattle.recovery_lines.proofs.Merging.{IsStill}
-use Rattle.step_lines.specs.Dids.{AllAgree, KeptFor, LeftTold, EventSaid}
+use Rattle.step_lines.specs.Effects.{AllAgree, KeptFor, LeftTold, EventSaid}
 use Rattle.step_lines.proofs.Onward.{nothing_more, lines_joined}
 use Rattle.step_lines.proofs.Looping.{agree_before}
 use Rattle.step_lines.proofs.Ending.{kept_for}
@@ -66,9 +66,9 @@ happens_adds c (Crashes id cause) w = go (w.hosts id.0)
     go : (host : Host) → Adds w (crashes_as id cause host w)
     go (Down durable pending) = adds_none w
     go (Up view) = (_, refl)
-happens_adds c (Opens id after journal checks) w = go (w.hosts id.0)
+happens_adds c (Opens id after journal checkpoints) w = go (w.hosts id.0)
   where
-    go : (host : Host) → Adds w (opens_as c id journal checks host w)
+    go : (host : Host) → Adds w (opens_as c id journal checkpoints host w)
     go (Down durable pending) = (_, refl)
     go (Up view) = adds_none w
 happens_adds c (Fails id after left cause) w = go (w.hosts id.0)
@@ -99,7 +99,7 @@ module _ (c : Config) (fit : IsFit c) (w : World) (ties : WorldLines c w) where
       (subst (λ (to : Party). PartySaid c (past [] w.lines) may.sent.frame.from to may.sent.frame.body) may.by s)
 
   view_lines : (view : View) (n : ℕ) → UpLines c (past [] w.lines) n view → ViewLines c (past [] w.lines) view
-  view_lines view n u = record { right = ties.right; known = ties.known; parts = u.parts; replica = subst (λ (x : NodeId). ReplicaLines c (past [] w.lines) x view.journal.state.epoch view.checks.newest view.service) (sym u.id) u.replica }
+  view_lines view n u = record { right = ties.right; known = ties.known; parts = u.parts; replica = subst (λ (x : NodeId). ReplicaLines c (past [] w.lines) x view.journal.state.epoch view.checkpoints.newest view.service) (sym u.id) u.replica }
 
   left_of : (view : View) (id : NodeId) (event : Event) → UpLines c (past [] w.lines) id.0 view → MayCome w id event → LeftTold c (past [] w.lines) id (rings_in view.parts) (step c view event)
   left_of view id event u may = subst (λ (x : NodeId). LeftTold c (past [] w.lines) x (rings_in view.parts) (step c view event)) u.id
@@ -113,16 +113,16 @@ module _ (c : Config) (fit : IsFit c) (w : World) (ties : WorldLines c w) where
       (subst (λ (x : NodeId). EventSaid c (past [] w.lines) x event) (sym u.id) (event_said id event may)) all)
 
   standing : (view : View) (n : ℕ) → UpLines c (past [] w.lines) n view → PossibleLines c (past [] w.lines) n (possible_of view)
-  standing view n u = record { kept = kept_for c (past [] w.lines) (node n) view.journal.state.epoch view.checks.newest view.service u.replica; covered = u.covered }
+  standing view n u = record { kept = kept_for c (past [] w.lines) (node n) view.journal.state.epoch view.checkpoints.newest view.service u.replica; covered = u.covered }
 
   steps_kept : (id : NodeId) (event : Event) (host : Host) → w.hosts id.0 ≡ host → MayCome w id event → AllAgree (past [] (steps_as c id event host w).lines) → WorldLines c (steps_as c id event host w)
   steps_kept id event (Down durable pending) e may all = ties
   steps_kept id event (Up view) e may all =
       let u : UpLines c (past [] w.lines) id.0 view = subst (λ (host : Host). HostLines c (past [] w.lines) id.0 host) e (ties.hosts id.0) in
-      let did : Stepped = step c view event in
-      let r = right_of view id event u may (subst (λ (ls : List Line). AllAgree ls) (past_more [] w.lines did.lines) all) in
-      subst (λ (ls : List Line). TiedTo c ls (steps_as c id event (Up view) w)) (sym r.1.printed ∙ sym (past_more [] w.lines did.lines))
-      (stepped_world c (past [] w.lines) w (steps_as c id event (Up view) w) id.0 [] r.0 did refl refl tt ties (rings_in view.parts) u.placed (left_of view id event u may) r.1)
+      let effects : Stepped = step c view event in
+      let r = right_of view id event u may (subst (λ (ls : List Line). AllAgree ls) (past_more [] w.lines effects.lines) all) in
+      subst (λ (ls : List Line). TiedTo c ls (steps_as c id event (Up view) w)) (sym r.1.printed ∙ sym (past_more [] w.lines effects.lines))
+      (stepped_world c (past [] w.lines) w (steps_as c id event (Up view) w) id.0 [] r.0 effects refl refl tt ties (rings_in view.parts) u.placed (left_of view id event u may) r.1)
 
   breaks_kept : (id : NodeId) (event : Event) (cause : Cause) (host : Host) → w.hosts id.0 ≡ host → MayCome w id event → WorldLines c (breaks_as c id event cause host w)
   breaks_kept id event cause (Down durable pending) e may = ties
@@ -148,22 +148,22 @@ module _ (c : Config) (fit : IsFit c) (w : World) (ties : WorldLines c w) where
   rings_covered : (lines : List Line) (s t : State) → s.rings ≡ t.rings → AreCovered c lines t → AreCovered c lines s
   rings_covered lines s t e h ring = subst (λ (rs : List RingState). IsCovered c lines ring (slice_index_or rs ring.0 no_votes).trim) (sym e) (h ring)
 
-  opens_kept : (id : NodeId) (after : Bool) (journal : Journal) (checks : Checks) (host : Host) → w.hosts id.0 ≡ host → MayOpenAt c id after journal checks host → WorldLines c (opens_as c id journal checks host w)
-  opens_kept id after journal checks (Up view) e may = ties
-  opens_kept id after journal checks (Down durable pending) e may =
+  opens_kept : (id : NodeId) (after : Bool) (journal : Journal) (checkpoints : Checkpoints) (host : Host) → w.hosts id.0 ≡ host → MayOpenAt c id after journal checkpoints host → WorldLines c (opens_as c id journal checkpoints host w)
+  opens_kept id after journal checkpoints (Up view) e may = ties
+  opens_kept id after journal checkpoints (Down durable pending) e may =
       let both = subst (λ (host : Host). HostLines c (past [] w.lines) id.0 host) e (ties.hosts id.0) in
       let stood : Possible = chosen after durable pending in
       let p : PossibleLines c (past [] w.lines) id.0 (chosen after durable pending) = picked after id.0 durable pending both in
-      let kept : KeptFor c (past [] w.lines) id (chosen after durable pending).state.epoch checks.newest (partition_of c.partitions id) =
+      let kept : KeptFor c (past [] w.lines) id (chosen after durable pending).state.epoch checkpoints.newest (partition_of c.partitions id) =
       subst (λ (k : Option Checkpoint). KeptFor c (past [] w.lines) id (chosen after durable pending).state.epoch k (partition_of c.partitions id)) (sym may.newest) p.kept in
       let up : Line = line.Up id ((chosen after durable pending).state.epoch + 1) in
       let covered : AreCovered c (up ∷ past [] w.lines) journal.state = covered_past c (up ∷ []) (past [] w.lines) journal.state (rings_covered (past [] w.lines) journal.state (chosen after durable pending).state may.rings p.covered) in
-      let did : Stepped = opened c id journal checks in
-      let r = opened_lines c fit (past [] w.lines) id journal checks (chosen after durable pending).state.epoch may.epoch kept ties.right ties.known covered in
-      let l = opened_left c fit (past [] w.lines) id journal checks (chosen after durable pending).state.epoch may.epoch kept covered in
-      let v : World = opens_as c id journal checks (Down durable pending) w in
-      subst (λ (ls : List Line). TiedTo c ls v) (sym (r.1.printed) ∙ sym (ap (λ (n : ℕ). past (line.Up id n ∷ past [] w.lines) did.lines) may.epoch) ∙ sym (past_more [] w.lines (line.Up id journal.state.epoch ∷ did.lines)))
-      (stepped_world c (past [] w.lines) w v id.0 (up ∷ []) r.0 did refl refl ((λ other ne. differ id.0 other ne), tt) ties (rings_in (parts_of c id journal.state c.rings)) (placed_fresh c [] id journal.state may.node c.rings (λ ring has. has)) l r.1)
+      let effects : Stepped = opened c id journal checkpoints in
+      let r = opened_lines c fit (past [] w.lines) id journal checkpoints (chosen after durable pending).state.epoch may.epoch kept ties.right ties.known covered in
+      let l = opened_left c fit (past [] w.lines) id journal checkpoints (chosen after durable pending).state.epoch may.epoch kept covered in
+      let v : World = opens_as c id journal checkpoints (Down durable pending) w in
+      subst (λ (ls : List Line). TiedTo c ls v) (sym (r.1.printed) ∙ sym (ap (λ (n : ℕ). past (line.Up id n ∷ past [] w.lines) effects.lines) may.epoch) ∙ sym (past_more [] w.lines (line.Up id journal.state.epoch ∷ effects.lines)))
+      (stepped_world c (past [] w.lines) w v id.0 (up ∷ []) r.0 effects refl refl ((λ other ne. differ id.0 other ne), tt) ties (rings_in (parts_of c id journal.state c.rings)) (placed_fresh c [] id journal.state may.node c.rings (λ ring has. has)) l r.1)
 
   fails_kept : (id : NodeId) (after : Bool) (left : Possible) (cause : Cause) (host : Host) → w.hosts id.0 ≡ host → MayLeaveAt after left host → WorldLines c (fails_as id after left cause host w)
   fails_kept id after left cause (Up view) e may = ties
@@ -183,9 +183,9 @@ module _ (c : Config) (fit : IsFit c) (w : World) (ties : WorldLines c w) where
 
   -- ---- clients, and what is shown
 
-  client_kept : (id : ClientId) (did : ClientDid) → IsQuiet c did → WorldLines c (client_does id did w)
-  client_kept id did q = subst (λ (ls : List Line). TiedTo c ls (client_does id did w)) (sym (past_more [] w.lines did.lines))
-      (still_world c (past [] w.lines) w (client_does id did w) did.lines did.frames refl refl q.still q.said ties)
+  client_kept : (id : ClientId) (effects : ClientEffects) → IsQuiet c effects → WorldLines c (client_step id effects w)
+  client_kept id effects q = subst (λ (ls : List Line). TiedTo c ls (client_step id effects w)) (sym (past_more [] w.lines effects.lines))
+      (still_world c (past [] w.lines) w (client_step id effects w) effects.lines effects.frames refl refl q.still q.said ties)
 
   shown_kept : (l : Line) → IsStill c l → WorldLines c (with_lines (l ∷ []) w)
   shown_kept l still = subst (λ (ls : List Line). TiedTo c ls (with_lines (l ∷ []) w)) (sym (past_more [] w.lines (l ∷ [])))
@@ -199,7 +199,7 @@ module _ (c : Config) (fit : IsFit c) (w : World) (ties : WorldLines c w) where
   happens_kept (Steps id event) may all = steps_kept id event (w.hosts id.0) refl may all
   happens_kept (Breaks id event cause) may all = breaks_kept id event cause (w.hosts id.0) refl may
   happens_kept (Crashes id cause) may all = crashes_kept id cause (w.hosts id.0) refl
-  happens_kept (Opens id after journal checks) may all = opens_kept id after journal checks (w.hosts id.0) refl may
+  happens_kept (Opens id after journal checkpoints) may all = opens_kept id after journal checkpoints (w.hosts id.0) refl may
   happens_kept (Fails id after left cause) may all = fails_kept id after left cause (w.hosts id.0) refl may.1
   happens_kept (Asks id command) may all = client_kept id (asks c (w.clients id.0) command) (quiet_asks c (w.clients id.0) command)
   happens_kept (ClientTicks id) may all = client_kept id (client_ticks c (w.clients id.0)) (quiet_ticks c (w.clients id.0))

@@ -13,7 +13,7 @@ use Rattle.bare_world.specs.Worlds.{nothing}
 use Rattle.faithful.proofs.Growing.{same_number}
 use Rattle.faithful.proofs.Ordering.{is_tuple}
 use Rattle.recovery_lines.specs.Ties.{KeptLines}
-use Rattle.step_lines.specs.Dids.{KeptFor}
+use Rattle.step_lines.specs.Effects.{KeptFor}
 use Rattle.line_runs.specs.Invariant.{node, PossibleLines, WorldLines}
 
 none_below : (rings : List RingId) (p : Place) → IsBelow p (first_tuple rings) → ⊥

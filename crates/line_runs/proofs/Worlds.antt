@@ -20,7 +20,7 @@ use Rattle.recovery_lines.proofs.More.{IsCovered-more, PartLines-more, PartTold-
 use Rattle.recovery_lines.proofs.Merging.{IsStill, many}
 use Rattle.recovery_lines.proofs.Printing.{differ}
 use Rattle.recovery_lines.proofs.Saving.{kept_down}
-use Rattle.step_lines.specs.Dids.{KeptFor, LeftTold}
+use Rattle.step_lines.specs.Effects.{KeptFor, LeftTold}
 use Rattle.step_lines.proofs.Composing.{all_many, frames_still, others_replica, others_kept}
 use Rattle.line_runs.specs.Invariant.{node, PossibleLines, UpLines, HostLines, TiedTo}
 
@@ -50,7 +50,7 @@ module _ (c : Config) (x : ℕ) (lines new : List Line) (own : AllByRecursion (I
     told = told_past c new lines view.parts u.told;
     covered = covered_past c new lines view.journal.state u.covered;
     parts = parts_past c new lines view.parts u.parts;
-    replica = others_replica c (node x) (node n) view.journal.state.epoch view.checks.newest view.service new lines ne own u.replica;
+    replica = others_replica c (node x) (node n) view.journal.state.epoch view.checkpoints.newest view.service new lines ne own u.replica;
   }
   others_host n ne (Down durable pending) d = (possible durable d.0, possible pending d.1)
     where
@@ -70,33 +70,33 @@ module _ (c : Config) (x : ℕ) (lines new : List Line) (own : AllByRecursion (I
       go false e = others_host n (other_num n x e) (hosts n) (before n)
 
 -- a step that ended well, or an opening with its up line: `first` are the lines before its own
-pub stepped_world : (c : Config) (lines : List Line) (w v : World) (x : ℕ) (first new : List Line) (did : Stepped) → v.frames ≡ w.frames ++ did.frames → v.hosts ≡ (λ n. if n == x then Up did.view else w.hosts n)
-    → AllByRecursion (IsOf (node x)) first → TiedTo c lines w → (rings : List Ring) → AllByRecursion (IsPlaced c (node x)) rings → LeftTold c (past lines first) (node x) rings did → StepLines c (past lines first) new (node x) did → TiedTo c new v
-stepped_world c lines w v x first new did fs hs own ties rings placed left s =
+pub stepped_world : (c : Config) (lines : List Line) (w v : World) (x : ℕ) (first new : List Line) (effects : Stepped) → v.frames ≡ w.frames ++ effects.frames → v.hosts ≡ (λ n. if n == x then Up effects.view else w.hosts n)
+    → AllByRecursion (IsOf (node x)) first → TiedTo c lines w → (rings : List Ring) → AllByRecursion (IsPlaced c (node x)) rings → LeftTold c (past lines first) (node x) rings effects → StepLines c (past lines first) new (node x) effects → TiedTo c new v
+stepped_world c lines w v x first new effects fs hs own ties rings placed left s =
     subst (λ (ls : List Line). TiedTo c ls v) s.printed (record {
       right = now.right;
       known = now.known;
-      frames = subst (λ (ss : List Sent). AllByRecursion (IsSaid c (past (past lines first) did.lines)) ss) (sym fs)
-          (appended (IsSaid c (past (past lines first) did.lines)) w.frames did.frames (frames_still c did.lines (past lines first) w.frames (frames_still c first lines w.frames ties.frames)) now.frames);
-      hosts = subst (λ (f : ℕ → Host). (n : ℕ) → HostLines c (past (past lines first) did.lines) n (f n)) (sym hs) (λ n. go n (n == x) refl);
+      frames = subst (λ (ss : List Sent). AllByRecursion (IsSaid c (past (past lines first) effects.lines)) ss) (sym fs)
+          (appended (IsSaid c (past (past lines first) effects.lines)) w.frames effects.frames (frames_still c effects.lines (past lines first) w.frames (frames_still c first lines w.frames ties.frames)) now.frames);
+      hosts = subst (λ (f : ℕ → Host). (n : ℕ) → HostLines c (past (past lines first) effects.lines) n (f n)) (sym hs) (λ n. go n (n == x) refl);
     })
   where
-    now : StepLines c (past lines first) (past (past lines first) did.lines) (node x) did
-    now = subst (λ (ls : List Line). StepLines c (past lines first) ls (node x) did) (sym s.printed) s
+    now : StepLines c (past lines first) (past (past lines first) effects.lines) (node x) effects
+    now = subst (λ (ls : List Line). StepLines c (past lines first) ls (node x) effects) (sym s.printed) s
 
-    here : UpLines c (past (past lines first) did.lines) x did.view
+    here : UpLines c (past (past lines first) effects.lines) x effects.view
     here = record {
       id = left.id;
       placed = subst (λ (rs : List Ring). AllByRecursion (IsPlaced c (node x)) rs) (sym left.rings_stay) placed;
-      told = told_past c did.lines (past lines first) did.view.parts left.parts;
-      covered = covered_past c did.lines (past lines first) did.view.journal.state left.covered;
+      told = told_past c effects.lines (past lines first) effects.view.parts left.parts;
+      covered = covered_past c effects.lines (past lines first) effects.view.journal.state left.covered;
       parts = now.parts;
       replica = now.replica;
     }
 
-    go : (n : ℕ) (b : Bool) → (n == x) ≡ b → HostLines c (past (past lines first) did.lines) n (if b then Up did.view else w.hosts n)
-    go n true e = subst (λ (k : ℕ). HostLines c (past (past lines first) did.lines) k (Up did.view)) (sym (same_num n x e)) here
-    go n false e = others_host c x (past lines first) did.lines now.own n (other_num n x e) (w.hosts n) (others_host c x lines first own n (other_num n x e) (w.hosts n) (ties.hosts n))
+    go : (n : ℕ) (b : Bool) → (n == x) ≡ b → HostLines c (past (past lines first) effects.lines) n (if b then Up effects.view else w.hosts n)
+    go n true e = subst (λ (k : ℕ). HostLines c (past (past lines first) effects.lines) k (Up effects.view)) (sym (same_num n x e)) here
+    go n false e = others_host c x (past lines first) effects.lines now.own n (other_num n x e) (w.hosts n) (others_host c x lines first own n (other_num n x e) (w.hosts n) (ties.hosts n))
 
 -- A node goes down: its disk may stand for two states, each of which was one before the line.
 pub down_world : (c : Config) (lines : List Line) (w v : World) (x : ℕ) (cause : Cause) (durable pending : Possible) → v.frames ≡ w.frames → v.hosts ≡ (λ n. if n == x then Down durable pending else w.hosts n)

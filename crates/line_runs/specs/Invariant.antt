@@ -9,7 +9,7 @@ use Rattle.protocol.specs.Node.{View}
 use Rattle.bare_world.specs.Worlds.{Possible, Host, Up, Down, World}
 use Rattle.faithful.specs.Scanners.{past}
 use Rattle.recovery_lines.specs.Ties.{AreRight, IsPlaced, AreCovered, PartTold, PartLines, KnownLines, ReplicaLines, IsSaid, rings_in}
-use Rattle.step_lines.specs.Dids.{KeptFor}
+use Rattle.step_lines.specs.Effects.{KeptFor}
 
 abbrev pub node : ℕ → NodeId
 node n = record { 0 = n }
@@ -29,7 +29,7 @@ pub record UpLines (c : Config) (lines : List Line) (n : ℕ) (view : View) : Ty
   pub told : AllByRecursion (PartTold c lines) view.parts
   pub covered : AreCovered c lines view.journal.state
   pub parts : AllByRecursion (PartLines lines) view.parts
-  pub replica : ReplicaLines c lines (node n) view.journal.state.epoch view.checks.newest view.service
+  pub replica : ReplicaLines c lines (node n) view.journal.state.epoch view.checkpoints.newest view.service
 
 abbrev pub HostLines : Config → List Line → ℕ → Host → Type 0
 HostLines c lines n (Up view) = UpLines c lines n view

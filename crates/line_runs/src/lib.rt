@@ -132,7 +132,7 @@ pub fn recoveries_are_safe()
     ensures known { (c : Config) (hs : List Happening) → IsRun c hs → (n : ℕ) (view : View) (service : Service) (standing : Standing) → host_of c hs n ≡ Up view → view.service ≡ Some service
         → service.stage ≡ Ready standing → AllKnown (latest_first (lines_of c hs)) standing.tuple }
     ensures onward { (c : Config) (hs : List Happening) → IsRun c hs → (n : ℕ) (view : View) (service : Service) (standing : Standing) → host_of c hs n ≡ Up view → view.service ≡ Some service
-        → service.stage ≡ Ready standing → Reaches (instances standing.tuple) (newest_of service.partition view.checks.newest) }
+        → service.stage ≡ Ready standing → Reaches (instances standing.tuple) (newest_of service.partition view.checkpoints.newest) }
 {}
 
 /// What is used of a deployment is so of every valid one: quorums meet, a partition has a ring, and a node is a replica of one

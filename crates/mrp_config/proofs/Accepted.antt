@@ -8,9 +8,9 @@ use Rattle.mrp_config.specs.declared.tables.NodeTable.{NodeTable}
 use Rattle.mrp_config.specs.declared.tables.ClientTable.{ClientTable}
 use Rattle.mrp_config.specs.declared.tables.RingTable.{RingTable}
 use Rattle.mrp_config.specs.Address.{IsAddress}
-use Rattle.mrp_config.specs.Walk.{unless, address_of, id_of, all_known, tables_in, some_tables, tables_of, entries_in, node_of, client_of, ring_of, acceptors_of, nodes_of, clients_of, rings_of, top_nodes, top_clients, top_rings, numbers_of_nodes, node_ids, ring_ids}
+use Rattle.mrp_config.specs.Walk.{unless, address_of, id_of, all_known, tables_in, some_tables, tables_of, entries_in, node_of, client_of, ring_of, acceptors_of, size_of, nodes_of, clients_of, rings_of, top_nodes, top_clients, top_rings, numbers_of_nodes, node_ids, ring_ids}
 use Rattle.mrp_config.specs.Valid.{IncreasesFrom, AreAtMost, IsBetween, AreSeats, AreNodes, AreClients, AreRings, client_ids}
-use Rattle.mrp_config.proofs.Seen.{bound, ok_is, tested, then_was, Chained, chain_saw, as_many, id_saw, address_saw, seats_saw}
+use Rattle.mrp_config.proofs.Seen.{bound, ok_is, tested, then_was, Chained, chain_saw, as_many, number_saw, id_saw, address_saw, seats_saw}
 
 -- ---- lists of tables
 
@@ -106,35 +106,46 @@ top_clients_saw t clients h =
 
 -- ---- rings
 
-ring_saw : (ids : List ℕ) (least : ℕ) (t : Members) (ring : RingTable) → ring_of ids least t ≡ Ok ring → IsId least 15 ring.id.0 × AreSeats ids (numbers_of_nodes ring.acceptors)
+-- what a ring's table has to be
+abbrev IsIn : List ℕ → ℕ → RingTable → Type 0
+IsIn ids least ring = IsId least 15 ring.id.0 × (AreSeats ids (numbers_of_nodes ring.acceptors) × IsBetween 1 1024 ring.m)
+
+size_saw : (usual : ℕ) (found : Option Data) (m : ℕ) → IsBetween 1 1024 usual → size_of usual found ≡ Ok m → IsBetween 1 1024 m
+size_saw usual None m good h = subst (IsBetween 1 1024) (ok_is usual m h) good
+size_saw usual (Some value) m good h = number_saw (codes "ring.m") 1 1024 (Some value) m h
+
+ring_saw : (usual : ℕ) (ids : List ℕ) (least : ℕ) (t : Members) (ring : RingTable) → IsBetween 1 1024 usual → ring_of usual ids least t ≡ Ok ring → IsIn ids least ring
 unfolding ring_of acceptors_of
-ring_saw ids least t ring h =
+ring_saw usual ids least t ring good h =
     let a = bound (id_of (codes "ring.id") 15 least (get_member (codes "id") t)) _ ring h in
     let b = bound (acceptors_of ids t) _ ring a.2 in
-    let c = bound (all_known (codes "ring.") (codes "id" ∷ codes "acceptors" ∷ []) t) _ ring b.2 in
+    let m = bound (size_of usual (get_member (codes "m") t)) _ ring b.2 in
+    let c = bound (all_known (codes "ring.") (codes "id" ∷ codes "acceptors" ∷ codes "m" ∷ []) t) _ ring m.2 in
     let id = id_saw (codes "ring.id") 15 least (get_member (codes "id") t) a.0 a.1 in
     let seats = seats_saw (codes "ring.acceptors") [] ids (get_member (codes "acceptors") t) b.0 b.1 in
-    subst (λ (n : RingTable). IsId least 15 n.id.0 × AreSeats ids (numbers_of_nodes n.acceptors)) (ok_is (record { id = record { 0 = a.0 }; acceptors = b.0 }) ring c.2) (id, seats.0)
+    subst (IsIn ids least) (ok_is (record { id = record { 0 = a.0 }; acceptors = b.0; m = m.0 }) ring c.2) (id, (seats.0, size_saw usual (get_member (codes "m") t) m.0 good m.1))
 
 record AreRingsFrom (nodes : List ℕ) (start : ℕ) (rings : List RingTable) : Type 0 where
   ids : IncreasesFrom start (ring_ids rings)
   numbers : AreAtMost 15 (ring_ids rings)
   acceptors : AllByRecursion (λ (r : RingTable). AreSeats nodes (numbers_of_nodes r.acceptors)) rings
+  rounds : AllByRecursion (λ (r : RingTable). IsBetween 1 1024 r.m) rings
 
-rings_saw : (nodes : List ℕ) (start : ℕ) (ts : List Members) (rings : List RingTable) → Chained (ring_of nodes) (λ (least : ℕ) (ring : RingTable). ring.id.0 + 1) start ts rings → AreRingsFrom nodes start rings
-rings_saw nodes start [] [] h = record { ids = tt; numbers = tt; acceptors = tt }
-rings_saw nodes start [] (n ∷ ns) h = absurd h
-rings_saw nodes start (t ∷ ts) [] h = absurd h
-rings_saw nodes start (t ∷ ts) (n ∷ ns) h =
-    let one = ring_saw nodes start t n h.0 in
-    let rest = rings_saw nodes (n.id.0 + 1) ts ns h.1 in
-    record { ids = (one.0.0, rest.ids); numbers = (one.0.1, rest.numbers); acceptors = (one.1, rest.acceptors) }
+rings_saw : (usual : ℕ) (nodes : List ℕ) (start : ℕ) (ts : List Members) (rings : List RingTable) → IsBetween 1 1024 usual
+    → Chained (ring_of usual nodes) (λ (least : ℕ) (ring : RingTable). ring.id.0 + 1) start ts rings → AreRingsFrom nodes start rings
+rings_saw usual nodes start [] [] good h = record { ids = tt; numbers = tt; acceptors = tt; rounds = tt }
+rings_saw usual nodes start [] (n ∷ ns) good h = absurd h
+rings_saw usual nodes start (t ∷ ts) [] good h = absurd h
+rings_saw usual nodes start (t ∷ ts) (n ∷ ns) good h =
+    let one = ring_saw usual nodes start t n good h.0 in
+    let rest = rings_saw usual nodes (n.id.0 + 1) ts ns good h.1 in
+    record { ids = (one.0.0, rest.ids); numbers = (one.0.1, rest.numbers); acceptors = (one.1.0, rest.acceptors); rounds = (one.1.1, rest.rounds) }
 
-pub top_rings_saw : (nodes : List ℕ) (t : Members) (rings : List RingTable) → top_rings nodes t ≡ Ok rings → AreRings nodes rings
-top_rings_saw nodes t rings h =
-    let a = bound (tables_of (codes "ring") 1 16 (get_member (codes "ring") t)) (rings_of nodes 0) rings h in
+pub top_rings_saw : (usual : ℕ) (nodes : List ℕ) (t : Members) (rings : List RingTable) → IsBetween 1 1024 usual → top_rings usual nodes t ≡ Ok rings → AreRings nodes rings
+top_rings_saw usual nodes t rings good h =
+    let a = bound (tables_of (codes "ring") 1 16 (get_member (codes "ring") t)) (rings_of usual nodes 0) rings h in
     let few = tables_saw (codes "ring") 1 16 (get_member (codes "ring") t) a.0 a.1 in
-    let each = chain_saw (ring_of nodes) (λ (least : ℕ) (ring : RingTable). ring.id.0 + 1) 0 a.0 rings a.2 in
-    let many : length rings ≡ length a.0 = as_many (ring_of nodes) (λ (least : ℕ) (ring : RingTable). ring.id.0 + 1) 0 a.0 rings each in
-    let all = rings_saw nodes 0 a.0 rings each in
-    record { few = (rw many few.0, rw many few.1); ids = all.ids; numbers = all.numbers; acceptors = all.acceptors }
+    let each = chain_saw (ring_of usual nodes) (λ (least : ℕ) (ring : RingTable). ring.id.0 + 1) 0 a.0 rings a.2 in
+    let many : length rings ≡ length a.0 = as_many (ring_of usual nodes) (λ (least : ℕ) (ring : RingTable). ring.id.0 + 1) 0 a.0 rings each in
+    let all = rings_saw usual nodes 0 a.0 rings good each in
+    record { few = (rw many few.0, rw many few.1); ids = all.ids; numbers = all.numbers; acceptors = all.acceptors; rounds = all.rounds }

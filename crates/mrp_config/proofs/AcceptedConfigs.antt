@@ -2,7 +2,11 @@
 use Rattle.std.proofs.Common.{◌≡◌, ℕ, List, [], Ok, codes, subst}
 use Rattle.toml.specs.Data.{Members, get_member}
 use Rattle.mrp_config.specs.declared.deployment.Numbers.{Numbers}
-use Rattle.mrp_config.specs.Config.{Config}
+use Rattle.mrp_config.specs.declared.tables.NodeTable.{NodeTable}
+use Rattle.mrp_config.specs.declared.tables.ClientTable.{ClientTable}
+use Rattle.mrp_config.specs.declared.tables.RingTable.{RingTable}
+use Rattle.mrp_config.specs.declared.tables.PartitionTable.{PartitionTable}
+use Rattle.mrp_config.specs.Config.{Config, config_with}
 use Rattle.mrp_config.specs.Walk.{read_of, number_of, top_numbers, top_nodes, top_clients, top_rings, top_partitions, node_ids, ring_ids, all_known, top_names, judged, config_of, table_of}
 use Rattle.mrp_config.specs.Valid.{IsBetween, IsValid}
 use Rattle.mrp_config.proofs.Seen.{bound, ok_is, number_saw}
@@ -58,48 +62,40 @@ numbers_saw t n h =
       journal = number_saw (codes "journal") 1048576 4294967295 (get_member (codes "journal") t) k.0 k.1;
     })
 
+-- what is valid of the parts that were read of a table
+pub parts_saw : (t : Members) (numbers : Numbers) (nodes : List NodeTable) (clients : List ClientTable) (rings : List RingTable) (partitions : List PartitionTable) (u : Unit {0})
+    → top_numbers t ≡ Ok numbers → top_nodes t ≡ Ok nodes → top_clients t ≡ Ok clients → top_rings numbers.m (node_ids nodes) t ≡ Ok rings
+    → top_partitions (node_ids nodes) (ring_ids rings) t ≡ Ok partitions → judged partitions ≡ Ok u → IsValid (config_with numbers nodes clients rings partitions)
+parts_saw t numbers nodes clients rings partitions u a b c d e g =
+    let n = numbers_saw t numbers a in
+    record {
+      m = n.m;
+      lambda = n.lambda.1;
+      delta = n.delta;
+      resend = n.resend;
+      suspect = n.suspect;
+      attempt = n.attempt;
+      checkpoint = n.checkpoint;
+      trim = n.trim;
+      window = n.window;
+      journal = n.journal;
+      nodes = top_nodes_saw t nodes b;
+      clients = top_clients_saw t clients c;
+      rings = top_rings_saw numbers.m (node_ids nodes) t rings n.m d;
+      partitions = top_partitions_saw (node_ids nodes) (ring_ids rings) t partitions u e g;
+    }
+
 config_saw : (t : Members) (config : Config) → config_of t ≡ Ok config → IsValid config
 unfolding config_of
 config_saw t config h =
     let a = bound (top_numbers t) _ config h in
     let b = bound (top_nodes t) _ config a.2 in
     let c = bound (top_clients t) _ config b.2 in
-    let d = bound (top_rings (node_ids b.0) t) _ config c.2 in
+    let d = bound (top_rings a.0.m (node_ids b.0) t) _ config c.2 in
     let e = bound (top_partitions (node_ids b.0) (ring_ids d.0) t) _ config d.2 in
     let f = bound (all_known [] top_names t) _ config e.2 in
     let g = bound (judged e.0) _ config f.2 in
-    let numbers = numbers_saw t a.0 a.1 in
-    subst IsValid (ok_is (record {
-      m = a.0.m;
-      lambda = a.0.lambda;
-      delta = a.0.delta;
-      resend = a.0.resend;
-      suspect = a.0.suspect;
-      attempt = a.0.attempt;
-      checkpoint = a.0.checkpoint;
-      trim = a.0.trim;
-      window = a.0.window;
-      journal = a.0.journal;
-      nodes = b.0;
-      clients = c.0;
-      rings = d.0;
-      partitions = e.0;
-    }) config g.2) (record {
-      m = numbers.m;
-      lambda = numbers.lambda.1;
-      delta = numbers.delta;
-      resend = numbers.resend;
-      suspect = numbers.suspect;
-      attempt = numbers.attempt;
-      checkpoint = numbers.checkpoint;
-      trim = numbers.trim;
-      window = numbers.window;
-      journal = numbers.journal;
-      nodes = top_nodes_saw t b.0 b.1;
-      clients = top_clients_saw t c.0 c.1;
-      rings = top_rings_saw (node_ids b.0) t d.0 d.1;
-      partitions = top_partitions_saw (node_ids b.0) (ring_ids d.0) t e.0 g.0 e.1 g.1;
-    })
+    subst IsValid (ok_is (config_with a.0 b.0 c.0 d.0 e.0) config g.2) (parts_saw t a.0 b.0 c.0 d.0 e.0 g.0 a.1 b.1 c.1 d.1 e.1 g.1)
 
 pub accepted_is_valid : (bytes : List ℕ) (config : Config) → read_of bytes ≡ Ok config → IsValid config
 accepted_is_valid bytes config h =

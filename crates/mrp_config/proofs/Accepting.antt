@@ -6,10 +6,10 @@ use Rattle.mrp_config.specs.declared.tables.NodeTable.{NodeTable}
 use Rattle.mrp_config.specs.declared.tables.ClientTable.{ClientTable}
 use Rattle.mrp_config.specs.declared.tables.RingTable.{RingTable}
 use Rattle.mrp_config.specs.Address.{IsAddress}
-use Rattle.mrp_config.specs.Walk.{address_of, id_of, seats_of, numbers_of_nodes, node_of, nodes_of, client_of, clients_of, ring_of, acceptors_of, rings_of, node_ids, ring_ids}
+use Rattle.mrp_config.specs.Walk.{address_of, id_of, seats_of, numbers_of_nodes, node_of, nodes_of, client_of, clients_of, ring_of, acceptors_of, size_of, rings_of, node_ids, ring_ids}
 use Rattle.mrp_config.specs.Tables.{number, numbers, node_table, client_table, ring_table}
-use Rattle.mrp_config.specs.Valid.{IncreasesFrom, AreAtMost, AreSeats, client_ids}
-use Rattle.mrp_config.proofs.Spelled.{step, apart_from_none, id_back, address_back, seats_back}
+use Rattle.mrp_config.specs.Valid.{IncreasesFrom, AreAtMost, IsBetween, AreSeats, client_ids}
+use Rattle.mrp_config.proofs.Spelled.{step, apart_from_none, number_back, id_back, address_back, seats_back}
 
 -- ---- nodes and clients
 
@@ -39,14 +39,18 @@ clients_back start (n ∷ ns) low high good =
 
 -- ---- rings
 
-ring_back : (nodes : List ℕ) (start : ℕ) (r : RingTable) → start ≤ r.id.0 → r.id.0 ≤ 15 → AreSeats nodes (numbers_of_nodes r.acceptors) → ring_of nodes start (ring_table r) ≡ Ok r
+ring_back : (usual : ℕ) (nodes : List ℕ) (start : ℕ) (r : RingTable) → start ≤ r.id.0 → r.id.0 ≤ 15 → AreSeats nodes (numbers_of_nodes r.acceptors) → IsBetween 1 1024 r.m
+    → ring_of usual nodes start (ring_table r) ≡ Ok r
 unfolding ring_of acceptors_of ring_table
-ring_back nodes start r low high seats =
+ring_back usual nodes start r low high seats m =
     step (id_of (codes "ring.id") 15 start (Some (number r.id.0))) _ r.id.0 _ (id_back (codes "ring.id") 15 start r.id.0 low high)
-    (step (seats_of (codes "ring.acceptors") [] nodes (Some (numbers (numbers_of_nodes r.acceptors)))) _ r.acceptors _ (seats_back (codes "ring.acceptors") [] nodes r.acceptors seats (apart_from_none (numbers_of_nodes r.acceptors))) refl)
+    (step (seats_of (codes "ring.acceptors") [] nodes (Some (numbers (numbers_of_nodes r.acceptors)))) _ r.acceptors _ (seats_back (codes "ring.acceptors") [] nodes r.acceptors seats (apart_from_none (numbers_of_nodes r.acceptors)))
+    (step (size_of usual (Some (number r.m))) _ r.m _ (number_back (codes "ring.m") 1 1024 r.m m) refl))
 
-pub rings_back : (nodes : List ℕ) (start : ℕ) (rs : List RingTable) → IncreasesFrom start (ring_ids rs) → AreAtMost 15 (ring_ids rs) → AllByRecursion (λ (r : RingTable). AreSeats nodes (numbers_of_nodes r.acceptors)) rs → rings_of nodes start (map ring_table rs) ≡ Ok rs
-rings_back nodes start [] low high seats = refl
-rings_back nodes start (r ∷ rs) low high seats =
-    step (ring_of nodes start (ring_table r)) _ r _ (ring_back nodes start r low.0 high.0 seats.0)
-    (step (rings_of nodes (r.id.0 + 1) (map ring_table rs)) _ rs _ (rings_back nodes (r.id.0 + 1) rs low.1 high.1 seats.1) refl)
+pub rings_back : (usual : ℕ) (nodes : List ℕ) (start : ℕ) (rs : List RingTable) → IncreasesFrom start (ring_ids rs) → AreAtMost 15 (ring_ids rs)
+    → AllByRecursion (λ (r : RingTable). AreSeats nodes (numbers_of_nodes r.acceptors)) rs → AllByRecursion (λ (r : RingTable). IsBetween 1 1024 r.m) rs
+    → rings_of usual nodes start (map ring_table rs) ≡ Ok rs
+rings_back usual nodes start [] low high seats rounds = refl
+rings_back usual nodes start (r ∷ rs) low high seats rounds =
+    step (ring_of usual nodes start (ring_table r)) _ r _ (ring_back usual nodes start r low.0 high.0 seats.0 rounds.0)
+    (step (rings_of usual nodes (r.id.0 + 1) (map ring_table rs)) _ rs _ (rings_back usual nodes (r.id.0 + 1) rs low.1 high.1 seats.1 rounds.1) refl)

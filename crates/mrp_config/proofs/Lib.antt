@@ -3,6 +3,7 @@ pub mod Seen
 pub mod Spelled
 pub mod Accepting
 pub mod Keys
+pub mod Rounds
 pub mod Routes
 pub mod Bits
 pub mod AcceptingPartitions
@@ -15,6 +16,5 @@ pub mod Chains
 pub mod Digits
 pub mod Names
 pub mod Among
-pub mod Rising
 pub mod Documents
 pub mod Addresses

@@ -1,11 +1,12 @@
 -- Ids that increase give a mask of sixteen bits.
-use Rattle.std.proofs.Common.{◌≡◌, ℕ, ◌+◌, ◌^◌, ◌<◌, ◌≤◌, Bool, true, false, List, [], ◌∷◌, ◌&&◌, nat_le, nat_lt, refl, arith, if◌then◌else◌, IsTrue, Option, Some, None, Ok, Err, ap, sym, ◌∙◌}
+use Rattle.std.proofs.Common.{◌≡◌, ℕ, ◌+◌, ◌^◌, ◌<◌, ◌≤◌, Bool, true, false, List, [], ◌∷◌, ◌&&◌, nat_le, nat_lt, refl, arith, if◌then◌else◌, IsTrue, Option, Some, None, Ok, Err, ap, sym, ◌∙◌, le-leb, lt-ltb}
 use Rattle.std.proofs.lemmas.Grind.{common_steps}
 use Rattle.std.proofs.Math.Pow.{pow_mono}
 use Rattle.std.specs.List.{AllByRecursion}
 use Rattle.command_codec.specs.declared.command.Command.{Command}
 use Rattle.mrp_config.specs.declared.tables.PartitionTable.{PartitionTable}
 use Rattle.mrp_config.specs.Config.{ids_rise}
+use Rattle.mrp_config.specs.Valid.{IncreasesFrom, AreAtMost, partition_ids}
 use Rattle.mrp_config.specs.Routing.{is_concerned, bit_of, mask_of, concerned_of, first_concerned, common, route_of, no_group}
 
 true_both : (a b : Bool) → IsTrue (a && b) → IsTrue a × IsTrue b
@@ -17,6 +18,13 @@ is_at_least a b h = grind arith
 
 is_less : (a b : ℕ) → IsTrue (nat_lt a b) → a < b
 is_less a b h = grind arith
+
+pub rising : (least : ℕ) (ps : List PartitionTable) → IncreasesFrom least (partition_ids ps) → AreAtMost 15 (partition_ids ps) → IsTrue (ids_rise least ps)
+rising least [] low high = refl
+rising least (p ∷ ps) low high =
+    let below : p.id.0 ≤ 15 = high.0 in
+    let less : p.id.0 < 16 = omega arith in
+    rw (le-leb least p.id.0 low.0, lt-ltb p.id.0 16 less) (rising (p.id.0 + 1) ps low.1 high.1)
 
 pub low_ids : (least : ℕ) (ps : List PartitionTable) → IsTrue (ids_rise least ps) → AllByRecursion (λ (p : PartitionTable). p.id.0 < 16) ps
 low_ids least [] rise = tt

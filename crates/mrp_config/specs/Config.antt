@@ -3,6 +3,7 @@ use Rattle.std.specs.Prelude.{ℕ, ◌+◌, ◌==◌, nat_le, nat_lt, ◌&&◌, 
 use Rattle.mrp_types.specs.declared.id.NodeId.{NodeId}
 use Rattle.mrp_types.specs.declared.id.RingId.{RingId}
 use Rattle.mrp_types.specs.declared.id.LogId.{LogId}
+use Rattle.mrp_config.specs.declared.deployment.Numbers.{Numbers}
 use Rattle.mrp_config.specs.declared.tables.NodeTable.{NodeTable}
 use Rattle.mrp_config.specs.declared.tables.ClientTable.{ClientTable}
 use Rattle.mrp_config.specs.declared.tables.RingTable.{RingTable}
@@ -24,9 +25,24 @@ pub record Config : Type 0 where
   pub rings : List RingTable
   pub partitions : List PartitionTable
 
--- how many instances of a ring a round holds: today the same of each
-abbrev pub round_of : Config → RingId → ℕ
-round_of config ring = config.m
+-- these numbers and lists
+abbrev pub config_with : Numbers → List NodeTable → List ClientTable → List RingTable → List PartitionTable → Config
+config_with numbers nodes clients rings partitions = record {
+  m = numbers.m;
+  lambda = numbers.lambda;
+  delta = numbers.delta;
+  resend = numbers.resend;
+  suspect = numbers.suspect;
+  attempt = numbers.attempt;
+  checkpoint = numbers.checkpoint;
+  trim = numbers.trim;
+  window = numbers.window;
+  journal = numbers.journal;
+  nodes = nodes;
+  clients = clients;
+  rings = rings;
+  partitions = partitions;
+}
 
 -- ---- look-ups: the entry with this id
 
@@ -45,6 +61,17 @@ ring_at (ring ∷ rings) id = if ring.id.0 == id then Some ring else ring_at rin
 abbrev pub partition_at : List PartitionTable → ℕ → Option PartitionTable
 partition_at [] id = None
 partition_at (p ∷ partitions) id = if p.id.0 == id then Some p else partition_at partitions id
+
+-- ---- the sizes of rounds
+
+-- the size of the ring's round, or the usual one where there is no ring
+abbrev pub size_or : ℕ → Option RingTable → ℕ
+size_or usual None = usual
+size_or usual (Some ring) = ring.m
+
+-- how many instances of a ring a round holds; of a ring that isn't there as many as the top says
+abbrev pub round_of : Config → RingId → ℕ
+round_of config ring = size_or config.m (ring_at config.rings ring.0)
 
 -- ---- membership, as tests
 

@@ -5,7 +5,7 @@ use Rattle.std.specs.Cmp.Lexicographic.{slice_cmp}
 use Rattle.mrp_types.specs.declared.id.RingId.{RingId}
 use Rattle.mrp_types.specs.declared.id.LogId.{LogId}
 use Rattle.command_codec.specs.declared.command.Command.{Command}
-use Rattle.command_codec.specs.declared.command.Command.TheVariants.{Append, Multi, ReadLog, TrimLog, Get, Scan, Update, Insert, Delete}
+use Rattle.command_codec.specs.declared.command.Command.TheVariants.{Append, Multi, ReadLog, TrimLog, Get, Scan, Update, Insert, Delete, Swap}
 use Rattle.mrp_config.specs.declared.tables.PartitionTable.{PartitionTable}
 use Rattle.mrp_config.specs.declared.routing.NoGroup.{NoGroup}
 use Rattle.mrp_config.specs.Config.{has_ring, has_log}
@@ -42,6 +42,7 @@ is_concerned (Scan from to) p = do_meet from to p.from p.to
 is_concerned (Update key value) p = is_within p.from p.to key
 is_concerned (Insert key value) p = is_within p.from p.to key
 is_concerned (Delete key) p = is_within p.from p.to key
+is_concerned (Swap key old new) p = is_within p.from p.to key
 
 -- the concerned partitions in order
 abbrev pub concerned_of : Command → List PartitionTable → List PartitionTable

@@ -29,7 +29,10 @@ unfoldable pub client_table : ClientTable → Members
 client_table c = member (codes "address") (string c.address) (member (codes "id") (number c.id.0) no_members)
 
 unfoldable pub ring_table : RingTable → Members
-ring_table r = member (codes "acceptors") (numbers (numbers_of_nodes r.acceptors)) (member (codes "id") (number r.id.0) no_members)
+ring_table r =
+    member (codes "acceptors") (numbers (numbers_of_nodes r.acceptors))
+    (member (codes "id") (number r.id.0)
+    (member (codes "m") (number r.m) no_members))
 
 unfoldable pub partition_table : PartitionTable → Members
 partition_table p =

@@ -3,6 +3,7 @@ use Rattle.std.specs.Prelude.{ℕ, ◌≡◌, ◌+◌, ◌<◌, ◌≤◌, true,
 use Rattle.std.specs.List.{AllByRecursion}
 use Rattle.hex.specs.Hex.{IsBytes}
 use Rattle.mrp_types.specs.declared.id.RingId.{RingId}
+pub use Rattle.mrp_types.specs.Rings.{IncreasesFrom, numbers_of_rings}
 use Rattle.mrp_types.specs.declared.id.LogId.{LogId}
 use Rattle.mrp_config.specs.declared.tables.NodeTable.{NodeTable}
 use Rattle.mrp_config.specs.declared.tables.ClientTable.{ClientTable}
@@ -16,11 +17,6 @@ use Rattle.command_codec.specs.declared.command.Command.{Command}
 use Rattle.mrp_config.specs.Walk.{is_among, numbers_of_nodes, node_ids, ring_ids}
 
 -- ---- lists of numbers
-
--- each is greater than the one before it, the first at least `least`
-abbrev pub IncreasesFrom : ℕ → List ℕ → Type 0
-IncreasesFrom least [] = Unit {0}
-IncreasesFrom least (n ∷ ns) = (least ≤ n) × IncreasesFrom (n + 1) ns
 
 -- each is at most `most`
 abbrev pub AreAtMost : ℕ → List ℕ → Type 0
@@ -77,9 +73,7 @@ pub record AreRings (nodes : List ℕ) (rings : List RingTable) : Type 0 where
   pub ids : IncreasesFrom 0 (ring_ids rings)
   pub numbers : AreAtMost 15 (ring_ids rings)
   pub acceptors : AllByRecursion (λ (r : RingTable). AreSeats nodes (numbers_of_nodes r.acceptors)) rings
-
-abbrev pub numbers_of_rings : List RingId → List ℕ
-numbers_of_rings rings = map (λ (r : RingId). r.0) rings
+  pub rounds : AllByRecursion (λ (r : RingTable). IsBetween 1 1024 r.m) rings
 
 abbrev pub numbers_of_logs : List LogId → List ℕ
 numbers_of_logs logs = map (λ (l : LogId). l.0) logs

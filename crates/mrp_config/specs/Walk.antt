@@ -17,7 +17,7 @@ use Rattle.mrp_config.specs.declared.tables.PartitionTable.{PartitionTable}
 use Rattle.mrp_config.specs.declared.deployment.Numbers.{Numbers}
 use Rattle.mrp_config.specs.declared.fault.ConfigFault.{ConfigFault}
 use Rattle.mrp_config.specs.declared.fault.ConfigFault.TheVariants.{NotToml, Missing, WrongKind, OutOfRange, Repeated, UnknownId, BadQuorums, BadRanges, LogTwice, UnknownName, TooLong, Memory}
-use Rattle.mrp_config.specs.Config.{Config, has_log, has_ring}
+use Rattle.mrp_config.specs.Config.{Config, config_with, has_log, has_ring}
 use Rattle.mrp_config.specs.Address.{is_address}
 
 -- the second step, where the first found no fault
@@ -218,15 +218,21 @@ seats_of name taken ids found = do
 unfoldable pub acceptors_of : List ℕ → Members → Result (List NodeId) ConfigFault
 acceptors_of ids t = seats_of (codes "ring.acceptors") [] ids (get_member (codes "acceptors") t)
 
-unfoldable pub ring_of : List ℕ → ℕ → Members → Result RingTable ConfigFault
-ring_of ids least t = do
+-- the size of a ring's round, which may be missing: then it is the usual one
+abbrev pub size_of : ℕ → Option Data → Result ℕ ConfigFault
+size_of usual None = Ok usual
+size_of usual (Some value) = number_of (codes "ring.m") 1 1024 (Some value)
+
+unfoldable pub ring_of : ℕ → List ℕ → ℕ → Members → Result RingTable ConfigFault
+ring_of usual ids least t = do
   id ← id_of (codes "ring.id") 15 least (get_member (codes "id") t)
   acceptors ← acceptors_of ids t
-  known ← all_known (codes "ring.") (codes "id" ∷ codes "acceptors" ∷ []) t
-  Ok (record { id = record { 0 = id }; acceptors = acceptors })
+  m ← size_of usual (get_member (codes "m") t)
+  known ← all_known (codes "ring.") (codes "id" ∷ codes "acceptors" ∷ codes "m" ∷ []) t
+  Ok (record { id = record { 0 = id }; acceptors = acceptors; m = m })
 
-abbrev pub rings_of : List ℕ → ℕ → List Members → Result (List RingTable) ConfigFault
-rings_of ids least ts = chain (ring_of ids) (λ (least : ℕ) (ring : RingTable). ring.id.0 + 1) least ts
+abbrev pub rings_of : ℕ → List ℕ → ℕ → List Members → Result (List RingTable) ConfigFault
+rings_of usual ids least ts = chain (ring_of usual ids) (λ (least : ℕ) (ring : RingTable). ring.id.0 + 1) least ts
 
 -- ---- partitions
 
@@ -411,10 +417,10 @@ top_clients t = do
   ts ← tables_of (codes "client") 0 256 (get_member (codes "client") t)
   clients_of 0 ts
 
-abbrev pub top_rings : List ℕ → Members → Result (List RingTable) ConfigFault
-top_rings nodes t = do
+abbrev pub top_rings : ℕ → List ℕ → Members → Result (List RingTable) ConfigFault
+top_rings usual nodes t = do
   ts ← tables_of (codes "ring") 1 16 (get_member (codes "ring") t)
-  rings_of nodes 0 ts
+  rings_of usual nodes 0 ts
 
 abbrev pub top_partitions : List ℕ → List ℕ → Members → Result (List PartitionTable) ConfigFault
 top_partitions nodes rings t = do
@@ -433,26 +439,11 @@ config_of t = do
   numbers ← top_numbers t
   nodes ← top_nodes t
   clients ← top_clients t
-  rings ← top_rings (node_ids nodes) t
+  rings ← top_rings numbers.m (node_ids nodes) t
   partitions ← top_partitions (node_ids nodes) (ring_ids rings) t
   known ← all_known [] top_names t
   good ← judged partitions
-  Ok (record {
-    m = numbers.m;
-    lambda = numbers.lambda;
-    delta = numbers.delta;
-    resend = numbers.resend;
-    suspect = numbers.suspect;
-    attempt = numbers.attempt;
-    checkpoint = numbers.checkpoint;
-    trim = numbers.trim;
-    window = numbers.window;
-    journal = numbers.journal;
-    nodes = nodes;
-    clients = clients;
-    rings = rings;
-    partitions = partitions;
-  })
+  Ok (config_with numbers nodes clients rings partitions)
 
 -- the table that bytes are, which have to be UTF-8
 abbrev pub document_of : List ℕ → Option Members

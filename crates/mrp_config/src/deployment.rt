@@ -1,10 +1,13 @@
 //! A deployment as one value.
 
-ghost use Rattle.std.specs.Prelude.{◌≡◌, IfOk};
+ghost use Rattle.std.specs.Prelude.{◌≡◌, ◌<◌, ℕ, IfOk};
+ghost use Rattle.std.specs.List.{AllByRecursion};
 ghost use Rattle.std.specs.Option.{option_map};
 ghost use Rattle.toml.specs.View.{table_view};
 ghost use Rattle.mrp_config.specs.Walk.{Says, table_of, config_of, read_of};
-ghost use Rattle.mrp_config.specs.Config.{node_at, client_at, ring_at, partition_at};
+ghost use Rattle.mrp_types.specs.Rounds.{size_of};
+ghost use Rattle.mrp_config.specs.Config.{node_at, client_at, ring_at, partition_at, size_or, round_of};
+ghost use Rattle.mrp_config.specs.Valid.{IsBetween, IsValid};
 ghost use Rattle.mrp_config.specs.Routing.{mask_of, route_of, concerned_of};
 
 use crate::routing::{NoGroup, mask_concerned, ring_of};
@@ -14,7 +17,7 @@ use crate::walk::{
 };
 use crate::{ClientTable, ConfigFault, NodeTable, PartitionTable, RingTable};
 use command_codec::Command;
-use mrp_types::{ClientId, Memory, NodeId, PartitionId, RingId};
+use mrp_types::{ClientId, Memory, NodeId, PartitionId, RingId, RoundSizes};
 use std::alloc::Global;
 use std::marker::Model;
 use toml::Table;
@@ -34,7 +37,8 @@ pub struct Numbers {
     pub journal: u64,
 }
 
-/// The nodes, clients, rings and partitions of a system, each list by increasing id, and its numbers.
+/// The nodes, clients, rings and partitions of a system, each list by increasing id, and its numbers. Each deployment is
+/// valid.
 #[derive(Drop)]
 pub struct Deployment {
     numbers: Numbers,
@@ -45,29 +49,14 @@ pub struct Deployment {
 }
 
 impl Model for Deployment {
-    ghost use Rattle.std.specs.Prelude.{IsTrue};
-    ghost use Rattle.mrp_config.specs.Config.{Config, ids_rise};
+    ghost use Rattle.mrp_config.specs.Config.{Config, config_with};
+    ghost use Rattle.mrp_config.specs.Valid.{IsValid};
 
     ghost Value = { Config };
 
-    ghost view = { λ d. record {
-      m = d.numbers.m;
-      lambda = d.numbers.lambda;
-      delta = d.numbers.delta;
-      resend = d.numbers.resend;
-      suspect = d.numbers.suspect;
-      attempt = d.numbers.attempt;
-      checkpoint = d.numbers.checkpoint;
-      trim = d.numbers.trim;
-      window = d.numbers.window;
-      journal = d.numbers.journal;
-      nodes = d.nodes.items;
-      clients = d.clients.items;
-      rings = d.rings.items;
-      partitions = d.partitions.items;
-    } };
+    ghost view = { λ d. config_with d.numbers d.nodes.items d.clients.items d.rings.items d.partitions.items };
 
-    ghost invariant = { λ d. IsTrue (ids_rise 0 d.partitions.items) };
+    ghost invariant = { λ d. IsValid (config_with d.numbers d.nodes.items d.clients.items d.rings.items d.partitions.items) };
 }
 
 // The greatest length of a deployment's text in bytes.
@@ -99,7 +88,7 @@ fn read_config(alloc: Global, table: &Table) -> Result<Deployment, ConfigFault>
     let nodes = read_nodes(alloc, table)?;
     let clients = read_clients(alloc, table)?;
     let nodes_there = node_ids(alloc, &nodes)?;
-    let rings = read_rings(alloc, &nodes_there, table)?;
+    let rings = read_rings(alloc, numbers.m, &nodes_there, table)?;
     let rings_there = ring_ids(alloc, &rings)?;
     let partitions = read_partitions(alloc, &nodes_there, &rings_there, table)?;
     judge_top_names(alloc, table)?;
@@ -125,11 +114,11 @@ impl Deployment {
         read_config(alloc, &table)
     }
 
-    /// How many instances of each ring a round of the merge holds.
-    pub fn m(&self) -> u16
-        ensures { result ≡ self.now.m }
+    /// How many instances of each ring a round of the merge holds: of a ring that isn't there as many as the top says.
+    pub fn rounds(&self) -> RoundSizes
+        ensures { (ring : ℕ) → ring < 256 → size_of result ring ≡ round_of self.now (record { 0 = ring }) }
     {
-        self.numbers.m
+        rounds_of(self.numbers.m, &self.rings)
     }
 
     /// How many instances a ring is to start per tick.
@@ -223,16 +212,34 @@ impl Deployment {
         find_partition(&self.partitions, id)
     }
 
+    /// All nodes by increasing id.
+    pub fn nodes(&self) -> &[NodeTable]
+        ensures tables { result.now ≡ self.now.nodes }
+        ensures valid { IsValid self.now }
+    {
+        &self.nodes
+    }
+
+    /// All clients by increasing id.
+    pub fn clients(&self) -> &[ClientTable]
+        ensures tables { result.now ≡ self.now.clients }
+        ensures valid { IsValid self.now }
+    {
+        &self.clients
+    }
+
     /// All rings by increasing id.
     pub fn rings(&self) -> &[RingTable]
-        ensures { result.now ≡ self.now.rings }
+        ensures tables { result.now ≡ self.now.rings }
+        ensures valid { IsValid self.now }
     {
         &self.rings
     }
 
     /// All partitions by increasing id.
     pub fn partitions(&self) -> &[PartitionTable]
-        ensures { result.now ≡ self.now.partitions }
+        ensures tables { result.now ≡ self.now.partitions }
+        ensures valid { IsValid self.now }
     {
         &self.partitions
     }
@@ -321,6 +328,18 @@ fn find_ring(tables: &[RingTable], id: RingId) -> Option<&RingTable>
         }
     }
     None
+}
+
+fn rounds_of(usual: u16, tables: &[RingTable]) -> RoundSizes
+    requires usual { IsBetween 1 1024 usual }
+    requires rounds { AllByRecursion (λ (r : RingTable). IsBetween 1 1024 r.m) tables.now }
+    ensures { (ring : ℕ) → ring < 256 → size_of result ring ≡ size_or usual (ring_at tables.now ring) }
+{
+    let mut sizes = RoundSizes::same(usual);
+    for i in (0..tables.len()).rev() {
+        sizes.set(tables[i].id, tables[i].m);
+    }
+    sizes
 }
 
 fn find_partition(tables: &[PartitionTable], id: PartitionId) -> Option<&PartitionTable>

@@ -12,8 +12,8 @@ mod walk;
 pub use deployment::{Deployment, Numbers};
 pub use fault::ConfigFault;
 pub use laws::{
-    bits_name_what_is_concerned, keys_have_one_partition, routes_are_common_rings,
-    what_is_accepted_is_valid, what_is_valid_is_accepted,
+    bits_name_what_is_concerned, keys_have_one_partition, rounds_are_in_range,
+    routes_are_common_rings, what_is_accepted_is_valid, what_is_valid_is_accepted,
 };
 pub use lists::{LogIds, RingIds};
 pub use routing::NoGroup;

@@ -68,6 +68,11 @@ pub fn concerns(command: &Command, p: &PartitionTable) -> bool
         Command::Update { key, value: _ } => holds(from, to, key.bytes()),
         Command::Insert { key, value: _ } => holds(from, to, key.bytes()),
         Command::Delete { key } => holds(from, to, key.bytes()),
+        Command::Swap {
+            key,
+            old: _,
+            new: _,
+        } => holds(from, to, key.bytes()),
     }
 }
 

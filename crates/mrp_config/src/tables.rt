@@ -27,6 +27,8 @@ pub struct ClientTable {
 pub struct RingTable {
     pub id: RingId,
     pub acceptors: Seats,
+    /// The size of its round: how many of its instances a learner of several rings takes in turn, 1 to 1,024.
+    pub m: u16,
 }
 
 /// A partition: who replicates it, to which rings these subscribe, and which logs and keys it holds.

@@ -1,5 +1,4 @@
 mod accepted;
-mod keys;
 mod refused;
 mod routes;
 mod texts;

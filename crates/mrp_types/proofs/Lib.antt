@@ -1,3 +1,9 @@
+pub mod MemberLemmas
 pub mod PlaceOrder
+pub mod RoundLemmas
 pub mod TestLemmas
+pub mod TupleCalls
+pub mod TupleChain
 pub mod TupleLemmas
+pub mod TupleMoves
+pub mod TupleOrder

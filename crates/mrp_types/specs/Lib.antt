@@ -1,5 +1,9 @@
 pub mod Entries
+pub mod Members
+pub mod Moves
 pub mod Places
+pub mod Rings
+pub mod Rounds
 pub mod Book
 pub mod Seats
 pub mod Tuples

@@ -1,5 +1,5 @@
 -- Tuples: for each of some rings, in increasing order, the next instance.
-use Rattle.std.specs.Prelude.{ℕ, ◌≡◌, ◌+◌, ◌-◌, ◌<◌, ◌≤◌, ◌^◌, List, [], ◌∷◌, ◌++◌, length, replicate}
+use Rattle.std.specs.Prelude.{ℕ, ◌+◌, ◌-◌, ◌<◌, ◌≤◌, ◌^◌, List, [], ◌∷◌, ◌++◌, length, replicate}
 use Rattle.mrp_types.specs.declared.id.RingId.{RingId}
 
 -- each ring is greater than the one before it and below 16, and no instance is past the end

@@ -2,8 +2,9 @@
 
 ghost use Rattle.std.specs.Prelude.{◌≡◌, ◌<◌, ◌≤◌, ℕ};
 ghost use Rattle.mrp_types.specs.Places.{place_lt, IsInOneOrder};
+ghost use Rattle.mrp_types.specs.Rounds.{size_of};
 
-use crate::{Inst, RingId};
+use crate::{Inst, RingId, RoundSizes};
 
 /// An instance of a ring.
 #[derive(Clone, Copy, Debug, PartialEq, Eq)]
@@ -12,14 +13,13 @@ pub struct Place {
     pub inst: Inst,
 }
 
-/// Whether `a` stands before `b` where each ring gives `m` instances a round: by round, then ring,
-/// then instance.
-pub fn place_before(m: u16, a: Place, b: Place) -> bool
-    requires { 1 ≤ m }
-    ensures { result ≡ place_lt (λ _. m) a b }
+/// Whether `a` stands before `b`: by the round of its ring, then by its ring, then by its instance.
+pub fn place_before(m: &RoundSizes, a: Place, b: Place) -> bool
+    ensures { result ≡ place_lt (size_of m.now) a b }
 {
-    let m = u64::from(m);
-    (a.inst / m, a.ring, a.inst) < (b.inst / m, b.ring, b.inst)
+    let round = a.inst / u64::from(m.of(a.ring));
+    let other = b.inst / u64::from(m.of(b.ring));
+    (round, a.ring, a.inst) < (other, b.ring, b.inst)
 }
 
 /// The law of places: whatever a round holds of each ring, no place stands before itself, of two

@@ -8,10 +8,23 @@ fn majorities(rt: HostRuntime) {
     }
 }
 
+// Whether the places stand in this order.
+fn stand_so(m: &RoundSizes, order: &[(u8, Inst)]) -> bool {
+    let place = |(ring, inst): (u8, Inst)| Place {
+        ring: RingId(ring),
+        inst,
+    };
+    order.iter().enumerate().all(|(i, a)| {
+        order
+            .iter()
+            .enumerate()
+            .all(|(j, b)| place_before(m, place(*a), place(*b)) == (i < j))
+    })
+}
+
 #[test]
 fn places_by_round_then_ring(rt: HostRuntime) {
-    // Two instances a round: (0,0), (0,1), (1,0), (1,1), (0,2), (0,3), (1,2), (1,3).
-    let order = [
+    let even = [
         (0, 0),
         (0, 1),
         (1, 0),
@@ -21,19 +34,15 @@ fn places_by_round_then_ring(rt: HostRuntime) {
         (1, 2),
         (1, 3),
     ];
-    for (i, (ring, inst)) in order.iter().enumerate() {
-        for (j, (other, later)) in order.iter().enumerate() {
-            let a = Place {
-                ring: RingId(*ring),
-                inst: *inst,
-            };
-            let b = Place {
-                ring: RingId(*other),
-                inst: *later,
-            };
-            assert_eq!(rt; place_before(2, a, b), i < j, "{i} and {j}");
-        }
+    assert!(rt; stand_so(&RoundSizes::same(2), &even));
+    let mut m = two_and_one();
+    assert!(rt; stand_so(&m, &[(0, 0), (0, 1), (1, 0), (0, 2), (0, 3), (1, 1)]));
+    let copy = m;
+    m.set(RingId(255), 1024);
+    for (ring, want) in [(0, 2), (1, 1), (254, 2), (255, 1024)] {
+        assert_eq!(rt; m.of(RingId(ring)), want, "of ring {ring}");
     }
+    assert_eq!(rt; copy.of(RingId(255)), 2);
 }
 
 #[test]
@@ -67,8 +76,8 @@ fn entries_in_range(rt: HostRuntime) -> Result<(), Fail> {
     let alloc = rt.alloc();
     for (seq, len, want) in [
         (0, 0, false),
-        (1, 4096, true),
-        (1, 4097, false),
+        (1, 4_608, true),
+        (1, 4_609, false),
         (u64::MAX / 2, 0, true),
         (u64::MAX / 2 + 1, 0, false),
     ] {
@@ -85,6 +94,27 @@ fn entries_in_range(rt: HostRuntime) -> Result<(), Fail> {
         );
     }
     Ok(())
+}
+
+#[test]
+fn members_of_a_set(rt: HostRuntime) {
+    let mut members = Members::none();
+    assert_eq!(rt; members.count(), 0);
+    let before = members;
+    for node in [4, 0, 31, 4] {
+        members.add(NodeId(node));
+    }
+    assert_eq!(rt; (members.count(), before.count()), (3, 0));
+    for (node, want) in [
+        (0, true),
+        (1, false),
+        (4, true),
+        (31, true),
+        (32, false),
+        (255, false),
+    ] {
+        assert_eq!(rt; members.has(NodeId(node)), want, "of {node}");
+    }
 }
 
 #[test]
@@ -120,6 +150,63 @@ fn tuples_of_rings(rt: HostRuntime) {
     let one = Tuple::from_pairs(&[(RingId(0), 7)]);
     assert_eq!(rt; one.pairs(), &pairs[..1]);
     assert!(rt; tuple == copy && one != tuple);
+}
+
+// Sizes 2 and 1 of the rings 0 and 1.
+fn two_and_one() -> RoundSizes {
+    let mut m = RoundSizes::same(2);
+    m.set(RingId(1), 1);
+    m
+}
+
+#[test]
+fn tuples_by_moves(rt: HostRuntime) {
+    let m = two_and_one();
+    let mut tuple = Tuple::zero(&[RingId(0), RingId(1)]);
+    let zero = tuple;
+    for (ring, inst) in [(0, 0), (0, 1), (1, 0), (0, 2), (0, 3), (1, 1), (0, 4)] {
+        assert!(rt; tuple.is_valid(&m));
+        let next = tuple.next_place(&m);
+        assert_eq!(rt; (next.ring, next.inst), (RingId(ring), inst));
+        assert!(rt; next.inst < END);
+        tuple.advance(&m);
+    }
+    assert_eq!(rt; tuple.pairs(), [(RingId(0), 5), (RingId(1), 2)].as_slice());
+    assert_eq!(rt;
+        (
+            tuple.get(RingId(0)),
+            tuple.get(RingId(1)),
+            tuple.get(RingId(2))
+        ),
+        (Some(5), Some(2), None)
+    );
+    assert_eq!(rt; zero.pairs(), [(RingId(0), 0), (RingId(1), 0)].as_slice());
+}
+
+#[test]
+fn valid_tuples_and_their_order(rt: HostRuntime) {
+    let m = two_and_one();
+    let of = |a: Inst, b: Inst| [(RingId(0), a), (RingId(1), b)];
+    for (a, b, want) in [
+        (2, 1, true),
+        (3, 1, true),
+        (4, 1, true),
+        (4, 2, true),
+        (1, 1, false),
+        (2, 2, false),
+        (1000, 500, true),
+    ] {
+        assert_eq!(rt;
+            Tuple::from_pairs(&of(a, b)).is_valid(&m),
+            want,
+            "{a} and {b}"
+        );
+    }
+    let early = Tuple::from_pairs(&of(4, 1));
+    let late = Tuple::from_pairs(&of(4, 2));
+    assert_eq!(rt; early.compare(&late), Order::Before);
+    assert_eq!(rt; late.compare(&early), Order::After);
+    assert_eq!(rt; late.compare(&late), Order::Same);
 }
 
 #[test]

@@ -44,11 +44,17 @@ pub struct Entry {
     pub client: ClientId,
     /// From 1 to 2^63 - 1, each number of a client once.
     pub seq: u64,
-    /// At most 4,096 bytes.
+    /// At most `Entry::COMMAND` bytes.
     pub command: Octets,
 }
 
 impl Entry {
+    /// The most bytes of a command.
+    pub const COMMAND: usize = 4_608;
+
+    /// The greatest number of a client's command.
+    pub const LAST_SEQ: u64 = (1 << 63) - 1;
+
     /// An equal entry.
     pub fn copy(&self, alloc: Global) -> Result<Self, Memory>
         ensures { IfOk result (λ entry. entry ≡ self.now) }
@@ -65,6 +71,6 @@ impl Entry {
     pub fn is_valid(&self) -> bool
         ensures { IsTrue result ↔ IsEntry self.now }
     {
-        self.seq >= 1 && self.seq < 1 << 63 && self.command.len() <= 4096
+        self.seq >= 1 && self.seq <= Self::LAST_SEQ && self.command.len() <= Self::COMMAND
     }
 }

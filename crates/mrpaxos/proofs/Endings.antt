@@ -21,7 +21,10 @@ use Rattle.mrpaxos.specs.declared.status.Status.{Status}
 use Rattle.mrpaxos.specs.declared.status.Status.TheVariants.{Done, Usage, Config, Input, Source, Sink, Memory}
 use Rattle.mrpaxos.specs.declared.status.InputFault.TheVariants as input
 use Rattle.mrpaxos.specs.declared.status.Which.TheVariants as which
-use Rattle.mrpaxos.specs.Top.{IsReplay, Intake, Output, IsUnread, IsRead, HasFailed, IsCutShort, Judged, Entered, IsConfigured, Configured, Refuses, RefusesRead, Ends, Answers}
+use Rattle.mrpaxos.specs.declared.draw.Draw.{Draw}
+use Rattle.mrpaxos.specs.Intake.{Intake, Output, IsUnread, IsRead, HasFailed, IsCutShort}
+use Rattle.mrpaxos.specs.Drawing.{IsDraw, Printing, Draws, AnswersDraw}
+use Rattle.mrpaxos.specs.Top.{IsReplay, Judged, Entered, IsConfigured, Configured, Refuses, RefusesRead, Replays, Ends, Answers}
 
 -- ---- the words
 
@@ -96,16 +99,36 @@ configures (Source w) bytes config ring intake out is says = (config, ring, is, 
 configures Sink bytes config ring intake out is says = (config, ring, is, says)
 configures Memory bytes config ring intake out is says = inr (config, ring, is, says)
 
-pub ends : (status : Status) (words : List (List ℕ)) (config intake : Intake) (out : Output) (bytes : List ℕ) → IsReplay words → IsRead 1048577 config bytes →
-    Configured status bytes intake out → Ends status words config intake out
-ends Done words config intake out bytes is read says = (is, (bytes, read, says))
-ends Usage words config intake out bytes is read says = absurd says.3
-ends (Config f) words config intake out bytes is read says = (is, (bytes, read, says))
-ends (Input f) words config intake out bytes is read says = (is, (bytes, read, says))
-ends (Source which.Config) words config intake out bytes is read says = absurd says.3
-ends (Source which.Input) words config intake out bytes is read says = (is, (bytes, read, says))
-ends Sink words config intake out bytes is read says = (is, (bytes, read, says))
-ends Memory words config intake out bytes is read says = (is, inr (bytes, read, says))
+pub replays : (status : Status) (config intake : Intake) (out : Output) (bytes : List ℕ) → IsRead 1048577 config bytes → Configured status bytes intake out →
+    Replays status config intake out
+replays Done config intake out bytes read says = (bytes, read, says)
+replays Usage config intake out bytes read says = absurd says.3
+replays (Config f) config intake out bytes read says = (bytes, read, says)
+replays (Input f) config intake out bytes read says = (bytes, read, says)
+replays (Source which.Config) config intake out bytes read says = absurd says.3
+replays (Source which.Input) config intake out bytes read says = (bytes, read, says)
+replays Sink config intake out bytes read says = (bytes, read, says)
+replays Memory config intake out bytes read says = inr (bytes, read, says)
+
+pub of_replay : (status : Status) (words : List (List ℕ)) (config intake : Intake) (out : Output) → IsReplay words → Replays status config intake out →
+    Ends status words config intake out
+of_replay Done words config intake out is says = inl (is, says)
+of_replay Usage words config intake out is says = absurd says
+of_replay (Config f) words config intake out is says = inl (is, says)
+of_replay (Input f) words config intake out is says = inl (is, says)
+of_replay (Source w) words config intake out is says = inl (is, says)
+of_replay Sink words config intake out is says = inl (is, says)
+of_replay Memory words config intake out is says = inl (is, says)
+
+pub of_draw : (status : Status) (words : List (List ℕ)) (config intake : Intake) (out : Output) (draw : Draw) → IsDraw draw words → IsUnread intake → Draws draw status config out →
+    Ends status words config intake out
+of_draw Done words config intake out draw is unread says = inr (draw, is, unread, says)
+of_draw Usage words config intake out draw is unread says = absurd says.2
+of_draw (Config f) words config intake out draw is unread says = inr (draw, is, unread, says)
+of_draw (Input f) words config intake out draw is unread says = inr (draw, is, unread, says)
+of_draw (Source w) words config intake out draw is unread says = inr (draw, is, unread, says)
+of_draw Sink words config intake out draw is unread says = inr (draw, is, unread, says)
+of_draw Memory words config intake out draw is unread says = inr (draw, is, unread, says)
 
 -- ---- what is answered
 
@@ -171,36 +194,48 @@ both_told : (config intake : Intake) (status : Status) → ((conf text : List �
 both_told config intake status h = if_told config.before (λ conf. IfSome intake.before (λ text. Answers status conf text))
     (λ conf told. if_told intake.before (λ text. Answers status conf text) (λ text said. h conf text told said))
 
-by_status : (status : Status) (words : List (List ℕ)) (config intake : Intake) (out : Output) (conf text : List ℕ) → Ends status words config intake out → IsReplay words →
+by_status : (status : Status) (config intake : Intake) (out : Output) (conf text : List ℕ) → Replays status config intake out →
     config.before ≡ Some conf → intake.before ≡ Some text → Answers status conf text
-by_status Usage words config intake out conf text says is told said = absurd (says.0 is)
-by_status (Config f) words config intake out conf text says is told said =
-    let p = says.1 in
+by_status Usage config intake out conf text says told said = absurd says
+by_status (Config f) config intake out conf text p told said =
     inr (refuses_all config p.0 conf f p.1 told p.2.0)
-by_status Done words config intake out conf text says is told said =
-    let p = says.1 in
+by_status Done config intake out conf text p told said =
     let q = p.2 in
     let r = q.3 in
     let front : take 67108865 text ≡ r.0 = front_of 67108865 intake r.0 text r.1 said in
     inr (q.0, q.1, configures_all config p.0 conf q.0 q.1 p.1 told q.2, (r.2.0, ap (schedule_of q.0) front ∙ schedule_read q.0 r.0 r.2.0 r.2.1.schedule, r.2.1.built))
-by_status (Input (input.Schedule f)) words config intake out conf text says is told said =
-    let p = says.1 in
+by_status (Input (input.Schedule f)) config intake out conf text p told said =
     let q = p.2 in
     let r = q.3 in
     let front : take 67108865 text ≡ r.0 = front_of 67108865 intake r.0 text r.1 said in
     inr (q.0, q.1, configures_all config p.0 conf q.0 q.1 p.1 told q.2, subst (λ (l : List ℕ). RefusesRead (schedule_of q.0 l) f) (sym front) r.2.0)
-by_status (Source w) words config intake out conf text says is told said = inl tt
-by_status Sink words config intake out conf text says is told said = inl tt
-by_status Memory words config intake out conf text says is told said = inl tt
+by_status (Source w) config intake out conf text says told said = inl tt
+by_status Sink config intake out conf text says told said = inl tt
+by_status Memory config intake out conf text says told said = inl tt
 
-pub answers : (status : Status) (words : List (List ℕ)) (config intake : Intake) (out : Output) → Ends status words config intake out → IsReplay words →
-    IfSome config.before (λ conf. IfSome intake.before (λ text. Answers status conf text))
-answers status words config intake out says is =
-    both_told config intake status (λ conf text told said. by_status status words config intake out conf text says is told said)
-
--- the same where the configuration was read
-pub answers_from : (status : Status) (words : List (List ℕ)) (config intake : Intake) (out : Output) (bytes : List ℕ) →
+-- where the configuration was read
+pub answers_from : (status : Status) (config intake : Intake) (out : Output) (bytes : List ℕ) →
     ReadsFront 1048577 config.before config.after config.faults_before config.faults_after config.reads_before config.reads_after (Ok bytes) →
-    Configured status bytes intake out → IsReplay words → IfSome config.before (λ conf. IfSome intake.before (λ text. Answers status conf text))
-answers_from status words config intake out bytes read says is =
-    answers status words config intake out (ends status words config intake out bytes is (is_read 1048577 config bytes read) says) is
+    Configured status bytes intake out → IfSome config.before (λ conf. IfSome intake.before (λ text. Answers status conf text))
+answers_from status config intake out bytes read says =
+    both_told config intake status
+    (λ conf text told said. by_status status config intake out conf text (replays status config intake out bytes (is_read 1048577 config bytes read) says) told said)
+
+-- ---- a schedule from numbers
+
+drawn_by : (status : Status) (draw : Draw) (config : Intake) (out : Output) (bytes conf : List ℕ) → IsRead 1048577 config bytes → config.before ≡ Some conf → Printing status draw bytes out →
+    AnswersDraw status conf
+drawn_by Done draw config out bytes conf read told says = inr (says.0, read_is config bytes conf read told ∙ says.1.accepted)
+drawn_by Usage draw config out bytes conf read told says = absurd says
+drawn_by (Config f) draw config out bytes conf read told says = inr (read_is config bytes conf read told ∙ says.0)
+drawn_by (Input f) draw config out bytes conf read told says = absurd says
+drawn_by (Source w) draw config out bytes conf read told says = inl tt
+drawn_by Sink draw config out bytes conf read told says = inl tt
+drawn_by Memory draw config out bytes conf read told says = inl tt
+
+pub drawn_from : (status : Status) (draw : Draw) (config : Intake) (out : Output) (bytes : List ℕ) →
+    ReadsFront 1048577 config.before config.after config.faults_before config.faults_after config.reads_before config.reads_after (Ok bytes) →
+    Printing status draw bytes out → IfSome config.before (λ conf. AnswersDraw status conf)
+drawn_from status draw config out bytes read says =
+    if_told config.before (λ conf. AnswersDraw status conf)
+    (λ conf told. drawn_by status draw config out bytes conf (is_read 1048577 config bytes read) told says)

@@ -1,3 +1,5 @@
 pub mod Answers
 pub mod Status
+pub mod Intake
+pub mod Drawing
 pub mod Top

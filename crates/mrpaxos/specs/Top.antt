@@ -1,6 +1,6 @@
 -- What each status of the program says of the words, the configuration, the input and the output.
-use Rattle.std.specs.Prelude.{ℕ, ◌≡◌, ◌≤◌, ◌+◌, ◌⊎◌, List, [], ◌∷◌, length, codes, take, Option, Some, None, Result, Ok, Err}
-use Rattle.std.specs.Io.KnownBytes.{Appends, Consumes, IsAtEnd, Keeps}
+use Rattle.std.specs.Prelude.{ℕ, ◌≡◌, ◌+◌, ◌⊎◌, List, [], ◌∷◌, codes, take, Some, None, Result, Ok, Err}
+use Rattle.std.specs.Io.KnownBytes.{Appends}
 use Rattle.outside.specs.Counts.{rise}
 use Rattle.mrp_config.specs.Config.{Config as Deployed}
 use Rattle.mrp_config.specs.Walk.{read_of}
@@ -17,6 +17,9 @@ use Rattle.schedule.specs.Reading.{schedule_of}
 use Rattle.world.specs.Built.{IsBuilt, IsBuiltRing, unbuilt_at}
 use Rattle.world.specs.Order.{KeepsRules}
 use Rattle.world.specs.System.{trace}
+use Rattle.mrpaxos.specs.declared.draw.Draw.{Draw}
+use Rattle.mrpaxos.specs.Intake.{Intake, IsUnread, IsRead, HasFailed, IsCutShort, Output, IsUntouched}
+use Rattle.mrpaxos.specs.Drawing.{IsDraw, IsOfCalls, Draws}
 use Rattle.mrpaxos.specs.declared.status.Status.{Status}
 use Rattle.mrpaxos.specs.declared.status.Status.TheVariants.{Done, Usage, Config, Input, Source, Sink, Memory}
 use Rattle.mrpaxos.specs.declared.status.InputFault.TheVariants as input
@@ -25,58 +28,6 @@ use Rattle.mrpaxos.specs.declared.status.Which.TheVariants as which
 -- the one word `replay`
 abbrev pub IsReplay : List (List ℕ) → Type 0
 IsReplay words = words ≡ codes "replay" ∷ []
-
--- ---- sources and the sink
-
--- Of a source: the bytes left before and after, where it tells them, its counts of faults and of reads.
-pub record Intake : Type 0 where
-  pub before : Option (List ℕ)
-  pub after : Option (List ℕ)
-  pub faults_before : ℕ
-  pub faults_after : ℕ
-  pub reads_before : ℕ
-  pub reads_after : ℕ
-
--- nothing was read
-pub record IsUnread (intake : Intake) : Type 0 where
-  pub bytes : Keeps intake.before intake.after
-  pub faults : intake.faults_after ≡ intake.faults_before
-  pub reads : intake.reads_after ≡ intake.reads_before
-
--- these bytes came: no more than so many, and each read but the last gave at least one
-pub record Came (most : ℕ) (intake : Intake) (bytes : List ℕ) : Type 0 where
-  pub consumed : Consumes intake.before intake.after bytes
-  pub stopped : length bytes ≤ most
-  pub reads : intake.reads_after ≤ intake.reads_before + length bytes + 1
-
--- these bytes came, which are all that there were or the first so many, and no read failed
-pub record IsRead (most : ℕ) (intake : Intake) (bytes : List ℕ) : Type 0 where
-  pub came : Came most intake bytes
-  pub whole : IsAtEnd intake.after ⊎ (length bytes ≡ most)
-  pub faults : intake.faults_after ≡ intake.faults_before
-
--- a read failed
-pub record HasFailed (most : ℕ) (intake : Intake) : Type 0 where
-  pub bytes : List ℕ
-  pub came : Came most intake bytes
-  pub faults : intake.faults_after ≡ rise intake.faults_before
-
--- memory ran out, and no read failed
-pub record IsCutShort (most : ℕ) (intake : Intake) : Type 0 where
-  pub bytes : List ℕ
-  pub came : Came most intake bytes
-  pub faults : intake.faults_after ≡ intake.faults_before
-
--- Of a sink: the bytes taken before and after, where it tells them, and its counts of faults.
-pub record Output : Type 0 where
-  pub before : Option (List ℕ)
-  pub after : Option (List ℕ)
-  pub faults_before : ℕ
-  pub faults_after : ℕ
-
--- the sink took nothing and didn't fail
-abbrev pub IsUntouched : Output → Type 0
-IsUntouched out = Keeps out.before out.after × (out.faults_after ≡ out.faults_before)
 
 -- ---- a schedule over a ring
 
@@ -161,15 +112,19 @@ Configured status bytes intake out = EnteredBy status bytes intake out
 
 -- ---- all
 
--- What a status says of the words, the configuration, the input and the output. Up to 1,048,577 bytes are read of a
--- configuration: one more than it may have.
+-- What a status says of a replay, of whose configuration up to 1,048,577 bytes are read: one more than it may have.
+abbrev pub Replays : Status → Intake → Intake → Output → Type 0
+Replays Usage config input out = ⊥
+Replays (Source which.Config) config input out = HasFailed 1048577 config × IsUnread input × IsUntouched out
+Replays Memory config input out = (IsCutShort 1048577 config × IsUnread input × IsUntouched out)
+    ⊎ ((bytes : List ℕ) × IsRead 1048577 config bytes × Configured Memory bytes input out)
+Replays status config input out = (bytes : List ℕ) × IsRead 1048577 config bytes × Configured status bytes input out
+
+-- What a status says of the words, the configuration, the input and the output.
 abbrev pub Ends : Status → List (List ℕ) → Intake → Intake → Output → Type 0
-Ends Usage words config input out = (IsReplay words → ⊥) × IsUnread config × IsUnread input × IsUntouched out
-Ends (Source which.Config) words config input out = IsReplay words × HasFailed 1048577 config × IsUnread input × IsUntouched out
-Ends Memory words config input out = IsReplay words
-    × ((IsCutShort 1048577 config × IsUnread input × IsUntouched out)
-    ⊎ ((bytes : List ℕ) × IsRead 1048577 config bytes × Configured Memory bytes input out))
-Ends status words config input out = IsReplay words × ((bytes : List ℕ) × IsRead 1048577 config bytes × Configured status bytes input out)
+Ends Usage words config input out = (IsReplay words → ⊥) × ((draw : Draw) → IsDraw draw words → ⊥) × IsUnread config × IsUnread input × IsUntouched out
+Ends status words config input out = (IsReplay words × Replays status config input out)
+    ⊎ ((draw : Draw) × IsDraw draw words × IsUnread input × Draws draw status config out)
 
 -- ---- what is answered
 
@@ -181,13 +136,6 @@ IsAnswer (Input (input.Schedule fault)) conf text =
 IsAnswer Done conf text =
     (config : Deployed) × (ring : RingTable) × IsConfigured conf config ring × ((events : List ScheduleEvent) × (schedule_of config (take 67108865 text) ≡ Ok events) × (unbuilt_at events ≡ None))
 IsAnswer other conf text = ⊥
-
--- a call failed, or memory ran out
-abbrev pub IsOfCalls : Status → Type 0
-IsOfCalls (Source w) = Unit {0}
-IsOfCalls Sink = Unit {0}
-IsOfCalls Memory = Unit {0}
-IsOfCalls other = ⊥
 
 -- The answer to these bytes is that of the definitions, unless a call failed or memory ran out.
 abbrev pub Answers : Status → List ℕ → List ℕ → Type 0

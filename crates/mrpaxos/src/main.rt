@@ -1,9 +1,11 @@
-//! The program: `mrpaxos CONFIG INPUT replay`.
+//! The program: `mrpaxos CONFIG INPUT replay`, or `mrpaxos CONFIG INPUT gen SEED EVENTS`, which doesn't read INPUT.
 //!
 //! CONFIG is a file. INPUT is a file, or `-` for standard input. A file that can't be opened is a source whose first
-//! read fails. With fewer than two arguments there are no words.
+//! read fails. With fewer than two arguments there are no words, and none where an argument isn't text. `--help` or
+//! `--version` as the only argument is answered on standard output, with status 0.
 #![tactic(auto)]
 
+mod draw;
 mod replay;
 mod status;
 mod top;
@@ -19,10 +21,23 @@ pub use top::run;
 #[cfg(test)]
 mod tests;
 
+// What `--help` prints.
+const HELP: &str =
+    "mrpaxos CONFIG INPUT replay            runs the schedule INPUT and prints what the system prints
+mrpaxos CONFIG INPUT gen SEED EVENTS   prints a schedule made from a number
+CONFIG is a deployment (TOML). INPUT is a file, or - for standard input.";
+
 fn main(rt: HostRuntime) -> io::Result<ExitCode> {
-    let mut words = Vec::new(rt.alloc());
-    for word in env::args(&rt)? {
-        words.push(word)?;
+    let words = arguments(&rt)?;
+    if let [_, only] = words.as_slice() {
+        if only.as_str() == "--help" {
+            println!(rt; "{HELP}")?;
+            return Ok(ExitCode::SUCCESS);
+        }
+        if only.as_str() == "--version" {
+            println!(rt; "mrpaxos 0.1.0")?;
+            return Ok(ExitCode::SUCCESS);
+        }
     }
     let status = match (words.get(1), words.get(2)) {
         (Some(config), Some(input)) => {
@@ -37,9 +52,28 @@ fn main(rt: HostRuntime) -> io::Result<ExitCode> {
         _ => run_over(&rt, &words[..0], None::<fs::File>, None::<fs::File>),
     };
     if status.number() != 0 {
-        tell(&rt, &status)?;
+        // A text that can't be written changes no exit status.
+        let _told = tell(&rt, &status);
     }
     Ok(ExitCode::from(status.number()))
+}
+
+// The arguments; none where one of them isn't text, so that they are wrong ones.
+fn arguments(rt: &HostRuntime) -> io::Result<Vec<String>> {
+    let mut words = Vec::new(rt.alloc());
+    match env::args(rt) {
+        Ok(args) => {
+            for word in args {
+                words.push(word)?;
+            }
+        }
+        Err(fault) => {
+            if fault.kind() != io::ErrorKind::InvalidData {
+                return Err(fault);
+            }
+        }
+    }
+    Ok(words)
 }
 
 // Runs the words over readers and standard output.

@@ -82,12 +82,12 @@ fn config_text(alloc: Global, fault: &ConfigFault) -> Result<Octets, Memory>
     ensures { IfOk result (λ text. text ≡ joined (config_words fault.now)) }
 {
     let mut text = Octets::from_slice(alloc, b"config")?;
-    put_number(alloc, &mut text, u64::from(fault.number()))?;
+    put_number(&mut text, u64::from(fault.number()))?;
     if let Some(name) = fault.name() {
         put_word(&mut text, name.bytes())?;
     }
     if let Some(id) = fault.id() {
-        put_number(alloc, &mut text, u64::from(id))?;
+        put_number(&mut text, u64::from(id))?;
     }
     Ok(text)
 }
@@ -96,7 +96,7 @@ fn input_text(alloc: Global, fault: ScheduleFault) -> Result<Octets, Memory>
     ensures { IfOk result (λ text. text ≡ joined (input_words fault)) }
 {
     let mut text = Octets::from_slice(alloc, b"input")?;
-    put_number(alloc, &mut text, u64::from(fault.line))?;
+    put_number(&mut text, u64::from(fault.line))?;
     put_word(&mut text, name_of(fault.kind).as_bytes())?;
     Ok(text)
 }

@@ -123,7 +123,7 @@ fn schedules_and_their_lines(rt: HostRuntime) -> Result<(), Fail> {
     )?;
     let listed = format!(in alloc;
         "learn 1 0 0 1 {V}\ndeliver 1 0 0\n\
-        frame 2 n1 n2 4d52010600010000000000000000000000000000000001010014{V}\nframe 9 none\nend 4\n"
+        frame 2 n1 n2 4d52020600010000000000000000000000000000000001010014{V}\nframe 9 none\nend 4\n"
     )?;
     let rows = [
         ("", "end 0\n"),
@@ -249,8 +249,8 @@ fn other_rings(rt: HostRuntime) -> Result<(), Fail> {
     let schedule = b"ask 0 append 0 6869\nlist 0\nflow 2\nlist 1\n";
     let ended = outcome(alloc, "replay", reversed.as_str(), schedule, NONE)?;
     let lines = format!(in alloc;
-        "frame 0 c0 n2 4d520101010000000000000000000000010006010000026869\nlearn 0 0 0 1 {V}\ndeliver 0 0 0\n\
-        frame 1 n2 n0 4d520105000200000000000000000300000000000000000000000000000001010014{V}\nend 4\n"
+        "frame 0 c0 n2 4d520201010000000000000000000000010006010000026869\nlearn 0 0 0 1 {V}\ndeliver 0 0 0\n\
+        frame 1 n2 n0 4d520205000200000000000000000300000000000000000000000000000001010014{V}\nend 4\n"
     )?;
     assert!(rt; ends_with(&ended, 0, "", lines.as_str()), "{ended:?}");
     Ok(())
@@ -283,9 +283,63 @@ fn failing_calls(rt: HostRuntime) -> Result<(), Fail> {
     Ok(())
 }
 
+// A schedule is printed over any deployment, and no input is read.
+#[test]
+fn schedules_of_numbers(rt: HostRuntime) -> Result<(), Fail> {
+    let alloc = rt.alloc();
+    let no_input = Failing {
+        input: &[0],
+        ..NONE
+    };
+    for (config, command, want) in [
+        (CONFIG, "gen 1 0", ""),
+        (CONFIG, "gen 1 3", "flow 1000\ntick all\nflow 1000\n"),
+        (NINE, "gen 18446744073709551615 2", "flow 1000\ntick all\n"),
+    ] {
+        let ended = outcome(alloc, command, config, b"", no_input)?;
+        assert!(rt; ends_with(&ended, 0, "", want), "{command}: {ended:?}");
+    }
+    let first = outcome(alloc, "gen 1 200", CONFIG, b"", NONE)?;
+    let again = outcome(alloc, "gen 1 200", CONFIG, b"", NONE)?;
+    assert!(rt; first.lines.bytes() == again.lines.bytes());
+    Ok(())
+}
+
+#[test]
+fn schedules_of_numbers_that_fail(rt: HostRuntime) -> Result<(), Fail> {
+    let alloc = rt.alloc();
+    let no_config = Failing {
+        config: &[0],
+        ..NONE
+    };
+    let no_write = Failing { out: &[0], ..NONE };
+    for (failing, config, number, text) in [
+        (no_config, CONFIG, 4, "source config"),
+        (no_write, CONFIG, 5, "sink"),
+        (NONE, "=", 2, "config 1"),
+    ] {
+        let ended = outcome(alloc, "gen 1 3", config, b"", failing)?;
+        assert!(rt; ends_with(&ended, number, text, ""), "{text}: {ended:?}");
+    }
+    Ok(())
+}
+
 #[test]
 fn words_that_are_no_command(rt: HostRuntime) -> Result<(), Fail> {
-    for command in ["", "replay x", "Replay", "audit"] {
+    for command in [
+        "",
+        "replay x",
+        "Replay",
+        "audit",
+        "gen",
+        "gen 1",
+        "gen 1 2 3",
+        "gen 01 3",
+        "gen x 3",
+        "gen 1 1048577",
+        "gen 18446744073709551616 3",
+        "Gen 1 3",
+    ] {
         let ended = outcome(rt.alloc(), command, "", b"", NONE)?;
         assert!(rt; ends_with(&ended, 1, "usage", ""), "{command:?}: {ended:?}");
     }

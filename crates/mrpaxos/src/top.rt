@@ -1,11 +1,14 @@
 //! The top call: words, configuration, input and output of the program.
 
 ghost use Rattle.std.specs.Prelude.{◌≡◌, ◌↔◌, ◌<◌, IfSome, IsTrue, map, string_bytes};
+ghost use Rattle.mrpaxos.specs.declared.draw.Draw.{Draw as SomeDraw};
+ghost use Rattle.mrpaxos.specs.Drawing.{IsDraw, AnswersDraw};
 ghost use Rattle.world.specs.Ring.{IsRing};
-ghost use Rattle.mrpaxos.specs.Top.{Ends, Configured, Entered, Judged, IsReplay, Answers, refused_of, unbuilt_fault};
+ghost use Rattle.mrpaxos.specs.Top.{Ends, Replays, Configured, Entered, Judged, IsReplay, Answers, refused_of, unbuilt_fault};
 ghost use Rattle.mrpaxos.specs.declared.status.Status.TheVariants.{Input};
 ghost use Rattle.mrpaxos.specs.declared.status.InputFault.TheVariants.{Schedule as OfSchedule};
 
+use crate::draw::{draw_of, run_draw};
 use crate::replay::{ReplayFault, replay};
 use crate::status::{InputFault, Status, Which};
 use mrp_config::{ConfigFault, Deployment, RingTable};
@@ -15,12 +18,13 @@ use std::alloc::Global;
 use world::{built_ring, first_unbuilt};
 
 // One byte more than a configuration may have, and than a schedule may have.
-const CONFIG: usize = 1_048_577;
+pub(crate) const CONFIG: usize = 1_048_577;
 
 const INPUT: usize = 67_108_865;
 
 /// Runs a command. `replay` reads the configuration to its end and judges it, then the input, and writes the lines of
-/// the system to the output. Of each source it reads no byte after the first past the limit.
+/// the system to the output. `gen SEED EVENTS` reads and judges the configuration, and writes the schedule of these
+/// numbers. Of each source it reads no byte after the first past the limit.
 pub fn run<C: Source, I: Source, O: Sink>(
     alloc: Global,
     words: &[String],
@@ -52,14 +56,17 @@ pub fn run<C: Source, I: Source, O: Sink>(
     // failed or memory ran out.
     ensures answers { IsReplay (map string_bytes words.now) → IfSome (C.left config.old) (λ conf.
         IfSome (I.left input.old) (λ text. Answers result conf text)) }
+
+    // The same of the configuration alone, where a schedule is drawn.
+    ensures draws { (draw : SomeDraw) → IsDraw draw (map string_bytes words.now) →
+        IfSome (C.left config.old) (λ conf. AnswersDraw result conf) }
 {
-    if !is_replay(words) {
-        return Status::Usage;
+    if is_replay(words) {
+        return run_replay(alloc, config, input, out);
     }
-    match read_front(alloc, config, CONFIG) {
-        Ok(bytes) => run_config(alloc, bytes.bytes(), input, out),
-        Err(Refused::Failed) => Status::Source(Which::Config),
-        Err(Refused::Memory) => Status::Memory,
+    match draw_of(words) {
+        Some(draw) => run_draw(alloc, draw, config, out),
+        None => Status::Usage,
     }
 }
 
@@ -70,6 +77,40 @@ fn is_replay(words: &[String]) -> bool
     match words {
         [word] => word.as_str() == "replay",
         _ => false,
+    }
+}
+
+// Reads the configuration and the input, and replays the schedule.
+fn run_replay<C: Source, I: Source, O: Sink>(
+    alloc: Global,
+    config: &mut C,
+    input: &mut I,
+    out: &mut O,
+) -> Status
+    ensures ends { Replays result
+        (record {
+          before = C.left config.old;
+          after = C.left config.new;
+          faults_before = C.faults config.old;
+          faults_after = C.faults config.new;
+          reads_before = C.reads config.old;
+          reads_after = C.reads config.new;
+        })
+        (record {
+          before = I.left input.old;
+          after = I.left input.new;
+          faults_before = I.faults input.old;
+          faults_after = I.faults input.new;
+          reads_before = I.reads input.old;
+          reads_after = I.reads input.new;
+        })
+        (record { before = O.taken out.old; after = O.taken out.new; faults_before = O.faults out.old; faults_after = O.faults out.new }) }
+    ensures answers { IfSome (C.left config.old) (λ conf. IfSome (I.left input.old) (λ text. Answers result conf text)) }
+{
+    match read_front(alloc, config, CONFIG) {
+        Ok(bytes) => run_config(alloc, bytes.bytes(), input, out),
+        Err(Refused::Failed) => Status::Source(Which::Config),
+        Err(Refused::Memory) => Status::Memory,
     }
 }
 

@@ -1,9 +1,9 @@
 //! Where bytes come from.
 
-ghost use Rattle.std.specs.Prelude.{◌≡◌, ◌+◌, ◌<◌, ◌≤◌, ◌^◌, ℕ, List, length, IfOk, Option, None};
+ghost use Rattle.std.specs.Prelude.{◌≡◌, ◌+◌, ◌<◌, ◌≤◌, ◌^◌, ℕ, List, length, IfOk, Option, None, true};
 ghost use Rattle.std.specs.Io.{ReadsAtMost};
 ghost use Rattle.std.specs.Io.KnownBytes.{ReadConsumes};
-ghost use Rattle.outside.specs.Counts.{rise, CountsFault};
+ghost use Rattle.outside.specs.Counts.{rise, CountsFault, is_failed};
 ghost use Rattle.outside.specs.Reading.{ReadsFront, PieceComes};
 
 use crate::Refused;
@@ -121,7 +121,14 @@ impl<R: Read + Drop> Source for ReadSource<R> {
 
     ghost reads = { λ source. source.reads };
 
-    fn read(&mut self, into: &mut [u8]) -> Result<usize, Refused> {
+    fn read(&mut self, into: &mut [u8]) -> Result<usize, Refused>
+        ensures bound { ReadsAtMost result into.new }
+        ensures bytes { ReadConsumes None None result into.new }
+        ensures fault { CountsFault result self.old.faults self.new.faults }
+        ensures counted { self.new.reads ≡ rise self.old.reads }
+        ensures nothing { self.old.from ≡ None → is_failed result ≡ true }
+        ensures still { self.old.from ≡ None → self.new.from ≡ None }
+    {
         self.reads = self.reads.saturating_add(1);
         if let Some(from) = &mut self.from {
             if let Ok(taken) = from.read(into) {

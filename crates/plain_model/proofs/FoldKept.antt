@@ -5,13 +5,13 @@ use Rattle.std.proofs.lemmas.List.{length-append}
 use Rattle.mrp_types.specs.declared.id.LogId.{LogId}
 use Rattle.mrp_types.specs.declared.value.Entry.{Entry}
 use Rattle.command_codec.specs.declared.command.Command.{Command}
-use Rattle.command_codec.specs.declared.command.Command.TheVariants.{Append, Multi, ReadLog, TrimLog, Get, Scan, Update, Insert, Delete}
+use Rattle.command_codec.specs.declared.command.Command.TheVariants.{Append, Multi, ReadLog, TrimLog, Get, Scan, Update, Insert, Delete, Swap}
 use Rattle.command_codec.specs.declared.reply.Reply.{Reply}
 use Rattle.command_codec.specs.declared.reply.Reply.TheVariants as replies
 use Rattle.mrp_config.specs.declared.tables.PartitionTable.{PartitionTable}
 use Rattle.mrp_config.specs.Routing.{is_concerned}
 use Rattle.plain_model.specs.Replicas.{log_length, log_at, value_of, read_at}
-use Rattle.plain_model.specs.Fold.{Answered, is_done, values_of, cut_of, trim_of, logs_of, left_by, or_before, held_under, with_key_of, key_brought, keys_of, table_of, reply_with_room, done_where}
+use Rattle.plain_model.specs.Fold.{Answered, is_done, values_of, cut_of, trim_of, logs_of, left_by, or_before, held_under, with_key_of, key_brought, keys_of, table_of, reply_with_room, done_where, swap_reply}
 use Rattle.plain_model.proofs.FoldLogs.{adds, added_list, values-snoc, trim-snoc, log-at, length-kept, number_is, same_id}
 use Rattle.plain_model.proofs.FoldTable.{Rise, Has, rise_with, has_with, has_still, same_bytes}
 use Rattle.plain_model.proofs.FoldServices.{Kept, held-snoc, keys-snoc, none_both, found, with_reply}
@@ -65,6 +65,7 @@ cut-limit log (Scan from to) = refl
 cut-limit log (Update key value) = refl
 cut-limit log (Insert key value) = refl
 cut-limit log (Delete key) = refl
+cut-limit log (Swap key old new) = refl
 
 pub limit-kept : (ans : List Answered) (e : Entry) (c : Command) → Kept ans → Kept (ans ++ with_reply e c replies.Limit ∷ [])
 limit-kept ans e c kept = plain-kept ans (with_reply e c replies.Limit) kept (λ log. cut-limit log c) (λ k. refl)
@@ -137,3 +138,14 @@ room-kept p ans e (Delete key) at kept = by (value_of key (table_of ans))
     by : (x : Option (List ℕ)) → Kept (ans ++ with_reply e (Delete key) (done_where (is_some x) replies.Absent) ∷ [])
     by None = plain-kept ans (with_reply e (Delete key) replies.Absent) kept (λ l. refl) (λ k. refl)
     by (Some old) = kept-snoc ans (with_reply e (Delete key) replies.Done) kept (λ l. omega arith) (λ k v d. absurd (none_left k v (bytes_eq key k) d))
+room-kept p ans e (Swap key old new) at kept = by (value_of key (table_of ans)) refl
+  where
+    by : (x : Option (List ℕ)) → value_of key (table_of ans) ≡ x → Kept (ans ++ with_reply e (Swap key old new) (swap_reply x old) ∷ [])
+    by None h = plain-kept ans (with_reply e (Swap key old new) replies.Absent) kept (λ l. refl) (λ k. refl)
+    by (Some value) h = judged (bytes_eq value old)
+      where
+        judged : (t : Bool) → Kept (ans ++ with_reply e (Swap key old new) (if t then replies.Done else replies.Differs value) ∷ [])
+        judged true = kept-snoc ans (with_reply e (Swap key old new) replies.Done) kept (λ l. omega arith)
+            (put_left ans (with_reply e (Swap key old new) replies.Done) key new (λ k. refl)
+            (subst (λ (keys : List (List ℕ)). Has key keys) (sym (keys-snoc [] ans (with_reply e (Swap key old new) replies.Done))) (kept.has key value (sym (found ans kept key) ∙ h))))
+        judged false = plain-kept ans (with_reply e (Swap key old new) (replies.Differs value)) kept (λ l. refl) (λ k. refl)

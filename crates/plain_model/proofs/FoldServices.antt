@@ -4,14 +4,14 @@ use Rattle.std.specs.Prelude.{bytes_eq, is_some, not}
 use Rattle.mrp_types.specs.declared.id.LogId.{LogId}
 use Rattle.mrp_types.specs.declared.value.Entry.{Entry}
 use Rattle.command_codec.specs.declared.command.Command.{Command}
-use Rattle.command_codec.specs.declared.command.Command.TheVariants.{Append, Multi, ReadLog, TrimLog, Get, Scan, Update, Insert, Delete}
+use Rattle.command_codec.specs.declared.command.Command.TheVariants.{Append, Multi, ReadLog, TrimLog, Get, Scan, Update, Insert, Delete, Swap}
 use Rattle.command_codec.specs.declared.reply.Reply.{Reply}
 use Rattle.command_codec.specs.declared.reply.TableEntry.{TableEntry}
 use Rattle.command_codec.specs.declared.reply.Reply.TheVariants as replies
 use Rattle.mrp_config.specs.declared.tables.PartitionTable.{PartitionTable}
 use Rattle.mrp_config.specs.Routing.{is_concerned}
-use Rattle.plain_model.specs.Replicas.{LogState, log_length, log_at, with_log, trimmed_to, value_of, without, with_entry, effect_of, told, updating, inserting, deleting, read_at}
-use Rattle.plain_model.specs.Fold.{Answered, is_limit, is_done, values_of, trim_of, logs_of, left_by, or_before, held_after, held_under, with_key, with_key_of, key_brought, keys_after, keys_of, table_of, reply_with_room, trim_reply, done_where}
+use Rattle.plain_model.specs.Replicas.{LogState, log_length, log_at, with_log, trimmed_to, value_of, without, with_entry, effect_of, told, updating, inserting, deleting, swapping, read_at}
+use Rattle.plain_model.specs.Fold.{Answered, is_limit, is_done, values_of, trim_of, logs_of, left_by, or_before, held_after, held_under, with_key, with_key_of, key_brought, keys_after, keys_of, table_of, reply_with_room, trim_reply, done_where, swap_reply}
 use Rattle.plain_model.proofs.FoldLogs.{same-list, takes-list, cuts-list, log-at}
 use Rattle.plain_model.proofs.FoldTable.{table_by, Rise, Has, with_has, with-entry, without-by, alike, value-by, bytes_turned}
 
@@ -103,6 +103,18 @@ effect-table ans e (Delete key) logs kept = by (value_of key (table_of ans))
         (deleting x key logs (table_of ans)).table ≡ table_of (ans ++ with_reply e (Delete key) (done_where (is_some x) replies.Absent) ∷ [])
     by None = table-none ans (with_reply e (Delete key) replies.Absent) (λ k. refl) refl
     by (Some old) = table-gone ans (with_reply e (Delete key) replies.Done) key (λ k. refl) refl
+effect-table ans e (Swap key old new) logs kept = by (value_of key (table_of ans)) refl
+  where
+    by : (x : Option (List ℕ)) → value_of key (table_of ans) ≡ x →
+        (swapping x key old new logs (table_of ans)).table ≡ table_of (ans ++ with_reply e (Swap key old new) (swap_reply x old) ∷ [])
+    by None h = table-none ans (with_reply e (Swap key old new) replies.Absent) (λ k. refl) refl
+    by (Some value) h = judged (bytes_eq value old)
+      where
+        judged : (t : Bool) → (if t then told replies.Done logs (with_entry key new (table_of ans)) else told (replies.Differs value) logs (table_of ans)).table ≡
+            table_of (ans ++ with_reply e (Swap key old new) (if t then replies.Done else replies.Differs value) ∷ [])
+        judged true = table-put ans (with_reply e (Swap key old new) replies.Done) key new kept.rise (λ k. refl)
+            (keys-snoc [] ans (with_reply e (Swap key old new) replies.Done) ∙ sym (with_has key (keys_of ans) kept.rise (kept.has key value (sym (found ans kept key) ∙ h))))
+        judged false = table-none ans (with_reply e (Swap key old new) (replies.Differs value)) (λ k. refl) refl
 
 -- ---- the logs
 
@@ -121,6 +133,14 @@ inserted_logs (Some old) key value logs table = refl
 deleted_logs : (x : Option (List ℕ)) (key : List ℕ) (logs : List LogState) (table : List TableEntry) → (deleting x key logs table).logs ≡ logs
 deleted_logs None key logs table = refl
 deleted_logs (Some old) key logs table = refl
+
+swapped_logs : (x : Option (List ℕ)) (key old new : List ℕ) (logs : List LogState) (table : List TableEntry) → (swapping x key old new logs table).logs ≡ logs
+swapped_logs None key old new logs table = refl
+swapped_logs (Some value) key old new logs table = by (bytes_eq value old)
+  where
+    by : (t : Bool) → (if t then told replies.Done logs (with_entry key new table) else told (replies.Differs value) logs table).logs ≡ logs
+    by true = refl
+    by false = refl
 
 pub effect-logs : (p : PartitionTable) (ans : List Answered) (e : Entry) (c : Command) (table : List TableEntry) → is_concerned c p ≡ true → Kept ans →
     (effect_of c (logs_of p ans) table).logs ≡ logs_of p (ans ++ with_reply e c (reply_with_room c (logs_of p ans) table) ∷ [])
@@ -164,6 +184,11 @@ effect-logs p ans e (Delete key) table at kept = deleted_logs (value_of key tabl
   where
     r : Reply
     r = reply_with_room (Delete key) (logs_of p ans) table
+effect-logs p ans e (Swap key old new) table at kept = swapped_logs (value_of key table) key old new (logs_of p ans) table
+    ∙ same-list p.logs ans (with_reply e (Swap key old new) r) (λ l. none_both (is_limit r)) (λ l. refl)
+  where
+    r : Reply
+    r = reply_with_room (Swap key old new) (logs_of p ans) table
 
 -- ---- the reply
 
@@ -194,3 +219,12 @@ effect-reply (Delete key) logs table = by (value_of key table)
     by : (x : Option (List ℕ)) → (deleting x key logs table).reply ≡ done_where (is_some x) replies.Absent
     by None = refl
     by (Some old) = refl
+effect-reply (Swap key old new) logs table = by (value_of key table)
+  where
+    by : (x : Option (List ℕ)) → (swapping x key old new logs table).reply ≡ swap_reply x old
+    by None = refl
+    by (Some value) = judged (bytes_eq value old)
+      where
+        judged : (t : Bool) → (if t then told replies.Done logs (with_entry key new table) else told (replies.Differs value) logs table).reply ≡ (if t then replies.Done else replies.Differs value)
+        judged true = refl
+        judged false = refl

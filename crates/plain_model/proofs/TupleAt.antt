@@ -8,6 +8,7 @@ use Rattle.mrp_types.specs.Places.{lt_then, place_lt}
 use Rattle.mrp_types.proofs.PlaceOrder.{in_one_order}
 use Rattle.mrp_config.specs.Config.{has_ring}
 use Rattle.plain_model.specs.Tuples.{count_before, tuple_at, is_valid_tuple, IsBelow, IsNotBelow}
+pub use Rattle.mrp_types.proofs.TupleMoves.{by_number}
 use Rattle.plain_model.proofs.TupleOrder.{not_before, before_not, front_is_valid, same_number, other_number}
 
 -- of two numbers that differ the rest decides nothing
@@ -75,9 +76,6 @@ count-before m p place some = by (p.ring.0 == place.ring.0) refl
         (p.inst < (if t then place.inst else (place.inst / m place.ring.0 + (if nat_lt p.ring.0 place.ring.0 then 1 else 0)) * m p.ring.0)) ↔ IsTrue (place_lt m p place)
     by true e = same_ring m p place (same_number p.ring.0 place.ring.0 e)
     by false e = other_ring m p place some (other_number p.ring.0 place.ring.0 e)
-
-pub by_number : (a b : RingId) → a.0 ≡ b.0 → a ≡ b
-by_number a b same = let made : ℕ → RingId = λ r. record { 0 = r } in ap made same
 
 -- what is below the tuple of a place comes before it
 pub below_is_before : (m : ℕ → ℕ) (rings : List RingId) (place p : Place) → ((r : ℕ) → 0 < m r) → IsBelow p (tuple_at m rings place) → IsTrue (place_lt m p place)

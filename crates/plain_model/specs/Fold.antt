@@ -1,6 +1,6 @@
 -- What a partition's entries mean, over plain lists: which of them count, what the logs and the table hold after them, what is
 -- replied, the state, and what a client is answered. Nothing here is kept from one entry to the next.
-use Rattle.std.specs.Prelude.{ℕ, zero, suc, ◌+◌, ◌-◌, ◌==◌, nat_le, nat_lt, max, Bool, true, false, not, ◌&&◌, ◌||◌, if◌then◌else◌, List, [], ◌∷◌, ◌++◌, map, filter, filter_map, drop, take_while, find, sum, bytes_eq, is_some, option_map, Option, Some, None, Result, Ok, Err}
+use Rattle.std.specs.Prelude.{ℕ, zero, suc, ◌+◌, ◌-◌, ◌==◌, nat_le, nat_lt, max, Bool, true, false, not, ◌&&◌, ◌||◌, if◌then◌else◌, List, [], ◌∷◌, ◌++◌, map, filter, filter_map, drop, take_while, find, bytes_eq, is_some, option_map, Option, Some, None, Result, Ok, Err}
 use Rattle.mrp_types.specs.declared.id.ClientId.{ClientId}
 use Rattle.mrp_types.specs.declared.id.LogId.{LogId}
 use Rattle.mrp_types.specs.declared.id.RingId.{RingId}
@@ -11,7 +11,7 @@ use Rattle.mrp_types.specs.declared.value.Value.TheVariants.{Skip, Batch}
 use Rattle.mrp_types.specs.Book.{Learning, book_of}
 use Rattle.mrp_types.specs.Places.{place_lt}
 use Rattle.command_codec.specs.declared.command.Command.{Command}
-use Rattle.command_codec.specs.declared.command.Command.TheVariants.{Append, Multi, ReadLog, TrimLog, Get, Scan, Update, Insert, Delete}
+use Rattle.command_codec.specs.declared.command.Command.TheVariants.{Append, Multi, ReadLog, TrimLog, Get, Scan, Update, Insert, Delete, Swap}
 use Rattle.command_codec.specs.declared.reply.TableEntry.{TableEntry}
 use Rattle.command_codec.specs.declared.reply.Reply.{Reply}
 use Rattle.command_codec.specs.declared.reply.Reply.TheVariants as replies
@@ -22,6 +22,7 @@ use Rattle.mrp_config.specs.declared.tables.PartitionTable.{PartitionTable}
 use Rattle.mrp_config.specs.Config.{Config, has_log, has_ring}
 use Rattle.mrp_config.specs.Routing.{is_before, is_concerned, concerned_of}
 use Rattle.plain_model.specs.Tuples.{round_sizes, first_tuple, next_place, past, tuple_at}
+pub use Rattle.mrp_types.specs.Moves.{count_below, rings_of}
 use Rattle.plain_model.specs.Replicas.{LogState, Session, Replica, log_length, log_at, ends_of, read_at, value_of, value_or_absent, page_of, scanned, has_no_room, entries_of_batch}
 use Rattle.plain_model.specs.StateBytes.{state_bytes}
 
@@ -49,13 +50,6 @@ entries_known known place = entries_in_book (book_of known place.0 place.1)
 abbrev pub entries_of_next : (ℕ → ℕ) → List Learning → ℕ → List (RingId × ℕ) → Option (List Entry)
 entries_of_next m known zero tuple = Some []
 entries_of_next m known (suc n) tuple = both_known (entries_known known (next_place m tuple)) (entries_of_next m known n (past m tuple))
-
--- how many places are below a tuple
-abbrev pub count_below : List (RingId × ℕ) → ℕ
-count_below tuple = sum (map (λ (x : RingId × ℕ). x.1) tuple)
-
-abbrev pub rings_of : List (RingId × ℕ) → List RingId
-rings_of tuple = map (λ (x : RingId × ℕ). x.0) tuple
 
 -- The entries at the places below a valid tuple, in the one order, and within a value in its own order. These places are the
 -- first of all places of the tuple's rings.
@@ -136,6 +130,7 @@ abbrev pub left_under : List ℕ → Command → Option (Option (List ℕ))
 left_under key (Insert named value) = if bytes_eq named key then Some (Some value) else None
 left_under key (Update named value) = if bytes_eq named key then Some (Some value) else None
 left_under key (Delete named) = if bytes_eq named key then Some None else None
+left_under key (Swap named old new) = if bytes_eq named key then Some (Some new) else None
 left_under key other = None
 
 abbrev pub left_by : List ℕ → Answered → Option (Option (List ℕ))
@@ -145,7 +140,7 @@ abbrev pub or_before : Option (Option (List ℕ)) → Option (List ℕ) → Opti
 or_before None before = before
 or_before (Some left) before = left
 
--- what the last insert, update or delete of the key that was done left, where before them there was this
+-- what the last insert, update, swap or delete of the key that was done left, where before them there was this
 abbrev pub held_after : List ℕ → Option (List ℕ) → List Answered → Option (List ℕ)
 held_after key before [] = before
 held_after key before (a ∷ answered) = held_after key (or_before (left_by key a) before) answered
@@ -204,6 +199,11 @@ trim_reply position log = if nat_lt (log_length log) position then replies.Beyon
 abbrev pub done_where : Bool → Reply → Reply
 done_where there other = if there then replies.Done else other
 
+-- a swap is done where the key has the old value, and tells the value where it is another one
+abbrev pub swap_reply : Option (List ℕ) → List ℕ → Reply
+swap_reply None old = replies.Absent
+swap_reply (Some value) old = if bytes_eq value old then replies.Done else replies.Differs value
+
 -- the reply to a command that has room, over the logs and the table before it
 abbrev pub reply_with_room : Command → List LogState → List TableEntry → Reply
 reply_with_room (Append log value) logs table = replies.Positions (ends_of (log ∷ []) logs)
@@ -215,6 +215,7 @@ reply_with_room (Scan from to) logs table = page_of (scanned from to table)
 reply_with_room (Update key value) logs table = done_where (is_some (value_of key table)) replies.Absent
 reply_with_room (Insert key value) logs table = done_where (not (is_some (value_of key table))) replies.Exists
 reply_with_room (Delete key) logs table = done_where (is_some (value_of key table)) replies.Absent
+reply_with_room (Swap key old new) logs table = swap_reply (value_of key table) old
 
 -- whether logs and table have no room for what these entries with their replies leave
 abbrev pub overfill : PartitionTable → List Answered → Bool

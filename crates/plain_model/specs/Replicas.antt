@@ -5,11 +5,11 @@ use Rattle.mrp_types.specs.declared.id.ClientId.{ClientId}
 use Rattle.mrp_types.specs.declared.id.LogId.{LogId}
 use Rattle.mrp_types.specs.declared.value.Entry.{Entry}
 use Rattle.command_codec.specs.declared.command.Command.{Command}
-use Rattle.command_codec.specs.declared.command.Command.TheVariants.{Append, Multi, ReadLog, TrimLog, Get, Scan, Update, Insert, Delete}
+use Rattle.command_codec.specs.declared.command.Command.TheVariants.{Append, Multi, ReadLog, TrimLog, Get, Scan, Update, Insert, Delete, Swap}
 use Rattle.command_codec.specs.declared.reply.LogPosition.{LogPosition}
 use Rattle.command_codec.specs.declared.reply.TableEntry.{TableEntry}
 use Rattle.command_codec.specs.declared.reply.Reply.{Reply}
-use Rattle.command_codec.specs.declared.reply.Reply.TheVariants.{Positions, Value, Trimmed, Absent, Beyond, Exists, Done, Entries, Limit}
+use Rattle.command_codec.specs.declared.reply.Reply.TheVariants.{Positions, Value, Trimmed, Absent, Beyond, Exists, Done, Entries, Limit, Differs}
 use Rattle.command_codec.specs.declared.fault.CodecFault.{CodecFault}
 use Rattle.command_codec.specs.Grammar.{command_of, batch_of}
 use Rattle.command_codec.specs.Replies.{reply_bytes}
@@ -152,6 +152,11 @@ abbrev pub deleting : Option (List ℕ) → List ℕ → List LogState → List 
 deleting None key logs table = told Absent logs table
 deleting (Some old) key logs table = told Done logs (without key table)
 
+-- a key that has the old value takes the new one
+abbrev pub swapping : Option (List ℕ) → List ℕ → List ℕ → List ℕ → List LogState → List TableEntry → Effect
+swapping None key old new logs table = told Absent logs table
+swapping (Some value) key old new logs table = if bytes_eq value old then told Done logs (with_entry key new table) else told (Differs value) logs table
+
 -- the rule of each command, where there is room
 unfoldable pub effect_of : Command → List LogState → List TableEntry → Effect
 effect_of (Append log value) logs table = appending value (log ∷ []) logs table
@@ -163,6 +168,7 @@ effect_of (Scan from to) logs table = told (page_of (scanned from to table)) log
 effect_of (Update key value) logs table = updating (value_of key table) key value logs table
 effect_of (Insert key value) logs table = inserting (value_of key table) key value logs table
 effect_of (Delete key) logs table = deleting (value_of key table) key logs table
+effect_of (Swap key old new) logs table = swapping (value_of key table) key old new logs table
 
 -- ---- room
 

@@ -8,7 +8,7 @@ use Rattle.mrp_types.specs.declared.value.Entry.{Entry}
 use Rattle.mrp_types.specs.declared.value.Value.TheVariants.{Skip, Batch}
 use Rattle.mrp_types.specs.Book.{Learning}
 use Rattle.command_codec.specs.declared.command.Command.{Command}
-use Rattle.command_codec.specs.declared.command.Command.TheVariants.{Append, Multi, ReadLog, TrimLog, Get, Scan, Update, Insert, Delete}
+use Rattle.command_codec.specs.declared.command.Command.TheVariants.{Append, Multi, ReadLog, TrimLog, Get, Scan, Update, Insert, Delete, Swap}
 use Rattle.command_codec.specs.declared.reply.Reply.{Reply}
 use Rattle.command_codec.specs.declared.reply.TableEntry.{TableEntry}
 use Rattle.command_codec.specs.Replies.{reply_bytes, entries_of}
@@ -144,6 +144,21 @@ mixed_replies =
     (17, 4 ∷ []) ∷
     (18, 4 ∷ []) ∷
     (19, 1 ∷ 1 ∷ 0 ∷ 0 ∷ 0 ∷ 0 ∷ 0 ∷ 0 ∷ 0 ∷ 0 ∷ 2 ∷ []) ∷ []
+
+-- a swap over another value, over the value that stands, and of a key that isn't there
+abbrev pub swap_over : List ℕ → Command
+swap_over old = Swap (codes "a") old (codes "3")
+
+abbrev pub swapped : List Entry
+swapped =
+    asked 1 (Insert (codes "a") (codes "1")) ∷
+    asked 2 (swap_over (codes "2")) ∷
+    asked 3 (swap_over (codes "1")) ∷
+    asked 4 (Swap (codes "b") [] []) ∷
+    asked 5 (Get (codes "a")) ∷ []
+
+abbrev pub swapped_replies : List (ℕ × List ℕ)
+swapped_replies = (0, 7 ∷ []) ∷ (1, 10 ∷ 0 ∷ 1 ∷ 49 ∷ []) ∷ (2, 7 ∷ []) ∷ (3, 4 ∷ []) ∷ (4, 2 ∷ 0 ∷ 1 ∷ 51 ∷ []) ∷ []
 
 -- the places of replies in a batch, and their bytes
 abbrev pub places_and_bytes : List (ℕ × Entry × List ℕ) → List (ℕ × List ℕ)

@@ -33,10 +33,7 @@ pub use rows::{
 };
 pub use size_laws::{pages_are_longest_fronts, pages_are_short, sizes_are_written_bytes};
 pub use tuple_laws::{
-    moves_keep_tuples_valid, past_adds_the_next_place, past_leaves_the_others,
-    the_next_place_is_an_entry, the_next_place_is_first, tuples_of_places_are_valid,
-    valid_tuples_are_fronts, valid_tuples_stand_in_one_order, what_comes_before_is_below,
-    what_is_below_comes_before,
+    tuples_of_places_are_valid, what_comes_before_is_below, what_is_below_comes_before,
 };
 
 /// Every front of a faithful list of lines is faithful.

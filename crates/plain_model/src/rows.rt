@@ -4,12 +4,13 @@ ghost use Rattle.std.specs.Prelude.{◌≡◌, ◌++◌, [], ◌∷◌, ℕ, tru
 ghost use Rattle.command_codec.specs.declared.command.Command.TheVariants.{Get};
 ghost use Rattle.command_codec.specs.declared.fault.CodecFault.TheVariants.{Short, BadField, Left};
 ghost use Rattle.command_codec.specs.Replies.{has_more};
+ghost use Rattle.command_codec.specs.Spelling.{command_bytes};
 ghost use Rattle.command_codec.specs.Grammar.{key_of};
 ghost use Rattle.plain_model.specs.Replicas.{empty_replica, page_of};
 ghost use Rattle.plain_model.specs.StateBytes.{state_bytes, state_of, read_state, whole_state};
 ghost use Rattle.plain_model.specs.Fold.{replica_after, answer_of, entries_below};
 ghost use Rattle.plain_model.specs.Tuples.{first_tuple, next_place, past_many, is_tuple_of, tuple_at};
-ghost use Rattle.plain_model.specs.Rows.{ring, place, twos, ones, alone, lower, upper, both_parts, client, hi, hi_reply, hi_state, hi_replica, after, mixed, mixed_replica, mixed_replies, places_and_bytes, replies_in, asked, asked_by, scan_all, a_book, insert_a, full_replica, after_full, eight, keys_in};
+ghost use Rattle.plain_model.specs.Rows.{ring, place, twos, ones, alone, lower, upper, both_parts, client, hi, hi_reply, hi_state, hi_replica, after, mixed, mixed_replica, mixed_replies, swap_over, swapped, swapped_replies, places_and_bytes, replies_in, asked, asked_by, scan_all, a_book, insert_a, full_replica, after_full, eight, keys_in};
 
 /// A value appended to an empty log: its reply.
 pub fn an_append()
@@ -54,6 +55,21 @@ pub fn the_fold()
 /// And of what is replied.
 pub fn the_replies()
     ensures { replies_in alone [] mixed ≡ mixed_replies }
+{}
+
+/// A swap as it is written.
+pub fn a_swap_written()
+    ensures { command_bytes (swap_over (codes "2")) ≡ 10 ∷ 0 ∷ 1 ∷ 97 ∷ 0 ∷ 1 ∷ 50 ∷ 0 ∷ 1 ∷ 51 ∷ [] }
+{}
+
+/// What an empty partition replies to an insert, to swaps and to a read of what they leave.
+pub fn swaps()
+    ensures { places_and_bytes (after lower swapped).replies ≡ swapped_replies }
+{}
+
+/// The plain lists say the same.
+pub fn swaps_by_the_lists()
+    ensures { replies_in lower [] swapped ≡ swapped_replies }
 {}
 
 /// Where a log would grow past its limit the reply is Limit, and it is kept with its number; the log stays as it was.

@@ -8,7 +8,7 @@ use Rattle.mrp_types.specs.declared.id.RingId.{RingId}
 use Rattle.plain_model.specs.Tuples.{is_at_or_after, is_valid_tuple, has_rings, is_tuple_of}
 use Rattle.plain_model.proofs.TupleOrder.{split_and, both_true, same_number, other_number}
 use Rattle.plain_model.proofs.TupleChain.{one_reaches, reaches_chain, reaches_same}
-use Rattle.checkpoint.specs.Checks.{is_same_tuple, is_after}
+use Rattle.checkpoint.specs.Checkpoints.{is_same_tuple, is_after}
 use Rattle.checkpoint.proofs.Tests.{after-before, same-is}
 use Rattle.protocol.specs.Recovery.{is_other, is_better, best_of}
 use Rattle.protocol.specs.Meaning.{IsAnswer, IsPreferred, IsBestAnswer}

@@ -4,5 +4,6 @@ pub mod EntryLemmas
 pub mod BallotLemmas
 pub mod CoverLemmas
 pub mod RunLemmas
+pub mod OfferLemmas
 pub mod RoundLemmas
 pub mod RangeLemmas

@@ -9,9 +9,9 @@ use Rattle.vote_state.specs.Ranges.{cast_of}
 use Rattle.skip_leveller.specs.Levelling.{levelling_after}
 use Rattle.frames.specs.declared.body.Body.TheVariants.{Prepare}
 use Rattle.frames.specs.declared.sent.Sent.{Sent}
-use Rattle.protocol.specs.Parts.{Ring, Campaign, Role, Idle, Active, Coordinator, Part, Did}
+use Rattle.protocol.specs.Parts.{Ring, Campaign, Role, Idle, Active, Coordinator, Part, Effects}
 use Rattle.protocol.specs.Rings.{is_own, other_acceptors, position_of, majority_of, sends, sends_each}
-use Rattle.protocol.specs.Doing.{with_campaign, with_part, with_frames}
+use Rattle.protocol.specs.Effects.{with_campaign, with_part, with_frames}
 use Rattle.protocol.specs.Learner.{with_met}
 
 -- ---- what is covered
@@ -68,10 +68,10 @@ new_campaign ring ballot kept = record {
 }
 
 -- the ballot begins at the own trim, and the other acceptors are asked from there on
-abbrev pub campaigns : Ring → ℕ → Did → Did
-campaigns ring ballot did =
-    with_frames (sends_each ring (other_acceptors ring) (Prepare ring.id ballot did.part.kept.trim))
-    (with_part (with_campaign (new_campaign ring ballot did.part.kept) did.part) did)
+abbrev pub campaigns : Ring → ℕ → Effects → Effects
+campaigns ring ballot effects =
+    with_frames (sends_each ring (other_acceptors ring) (Prepare ring.id ballot effects.part.kept.trim))
+    (with_part (with_campaign (new_campaign ring ballot effects.part.kept) effects.part) effects)
 
 -- the least ballot above promise and top that the node owns
 abbrev pub own_ballot : Ring → Part → ℕ → ℕ
@@ -111,18 +111,18 @@ asks_more ring from page = if page.hi == END then [] else sends ring (Some from)
 abbrev pub counts : Page → ℕ → ℕ → Bool
 counts page ballot covered = (page.ballot == ballot) && (nat_le page.lo covered && nat_lt covered page.hi)
 
-abbrev pub reported_past : Ring → NodeId → Page → Campaign → ℕ → ℕ → Did → Did
-reported_past ring from page campaign position covered did =
+abbrev pub reported_past : Ring → NodeId → Page → Campaign → ℕ → ℕ → Effects → Effects
+reported_past ring from page campaign position covered effects =
     if counts page campaign.ballot covered
-    then with_frames (asks_more ring from page) (with_part (with_campaign (with_page position covered page campaign) did.part) did)
-    else did
+    then with_frames (asks_more ring from page) (with_part (with_campaign (with_page position covered page campaign) effects.part) effects)
+    else effects
 
-abbrev pub reported_at : Ring → NodeId → Page → Role → Option ℕ → Did → Did
-reported_at ring from page Idle position did = did
-reported_at ring from page (Active campaign) None did = did
-reported_at ring from page (Active campaign) (Some position) did =
-    reported_past ring from page campaign position (slice_index campaign.covered position) did
+abbrev pub reported_at : Ring → NodeId → Page → Role → Option ℕ → Effects → Effects
+reported_at ring from page Idle position effects = effects
+reported_at ring from page (Active campaign) None effects = effects
+reported_at ring from page (Active campaign) (Some position) effects =
+    reported_past ring from page campaign position (slice_index campaign.covered position) effects
 
 -- a page of votes is reported
-abbrev pub reported : Ring → NodeId → Page → Did → Did
-reported ring from page did = reported_at ring from page did.part.coordinator.role (position_of ring from) did
+abbrev pub reported : Ring → NodeId → Page → Effects → Effects
+reported ring from page effects = reported_at ring from page effects.part.coordinator.role (position_of ring from) effects

@@ -6,7 +6,7 @@ use Rattle.plain_model.specs.Tuples.{entry_at}
 use Rattle.protocol.specs.Parts.{Ring, Part}
 use Rattle.protocol.specs.Rings.{is_acceptor}
 use Rattle.protocol.specs.Learner.{with_base}
-use Rattle.protocol.specs.Node.{Acting, RingPart, Service, Stage, Recovering, Ready}
+use Rattle.protocol.specs.Node.{StepSoFar, RingPart, Service, Stage, Recovering, Ready}
 
 -- an acceptor keeps for others what it has not trimmed
 abbrev pub kept_from : Ring → Part → ℕ → ℕ
@@ -25,5 +25,5 @@ base_by ring part (Some service) = if has_ring service.partition.rings ring.id.0
 abbrev pub rebased : Option Service → RingPart → RingPart
 rebased service p = record p { part = record p.part { learner = with_base (base_by p.ring p.part service) p.part.learner } }
 
-abbrev pub rebases : Acting → Acting
+abbrev pub rebases : StepSoFar → StepSoFar
 rebases a = record a { view = record a.view { parts = map (rebased a.view.service) a.view.parts } }

@@ -46,7 +46,7 @@ pub record ClientView : Type 0 where
   pub asked : Option Asked
 
 -- what a client makes of an event
-pub record ClientDid : Type 0 where
+pub record ClientEffects : Type 0 where
   pub client : ClientView
   pub frames : List Sent
   pub lines : List Line
@@ -60,7 +60,7 @@ abbrev pub new_client : ClientId → ClientView
 new_client id = client_from id 1
 
 -- nothing happens
-abbrev pub idles : ClientView → ClientDid
+abbrev pub idles : ClientView → ClientEffects
 idles c = record { client = c; frames = []; lines = [] }
 
 -- ---- sending
@@ -85,7 +85,7 @@ abbrev pub submits : Config → ClientView → Asked → List Sent
 submits config c a = submit_to c a (acceptor_at a.tries (acceptors_of (ring_at config.rings a.ring.0)))
 
 -- a client waits for this, and sends it
-abbrev pub sends_it : Config → ClientView → Asked → ClientDid
+abbrev pub sends_it : Config → ClientView → Asked → ClientEffects
 sends_it config c a = record { client = record c { asked = Some a }; frames = submits config c a; lines = [] }
 
 -- ---- asking
@@ -101,33 +101,33 @@ abbrev pub asked_first : ℕ → Command → RingId → Asked
 asked_first seq command ring = record { seq = seq; command = command; ring = ring; ticks = 0; tries = 0; parts = [] }
 
 -- A command that no ring orders isn't asked, and neither is one whose number would be 2 ^ 63. Any other takes the next number.
-abbrev pub asks_on : Config → ClientView → Command → Result RingId NoGroup → ClientDid
+abbrev pub asks_on : Config → ClientView → Command → Result RingId NoGroup → ClientEffects
 asks_on config c command (Err none) = idles c
 asks_on config c command (Ok ring) =
     if nat_lt c.next (2 ^ 63) then sends_it config (record c { next = c.next + 1 }) (asked_first c.next command ring) else idles c
 
 -- a client that waits is busy with that number
-abbrev pub asks_beside : Config → ClientView → Command → Option Asked → ClientDid
+abbrev pub asks_beside : Config → ClientView → Command → Option Asked → ClientEffects
 asks_beside config c command (Some a) = record { client = c; frames = []; lines = Busy c.id a.seq ∷ [] }
 asks_beside config c command None = asks_on config c command (route_of (concerned_of command config.partitions))
 
 -- the client asks a command
-unfoldable pub asks : Config → ClientView → Command → ClientDid
+unfoldable pub asks : Config → ClientView → Command → ClientEffects
 asks config c command = asks_beside config c command c.asked
 
 -- ---- ticks
 
 -- at each resend-th tick since it was asked the command is sent again, as one more try
-abbrev pub ticked : Config → ClientView → Asked → ClientDid
+abbrev pub ticked : Config → ClientView → Asked → ClientEffects
 ticked config c a =
     if a.ticks % config.resend == 0 then sends_it config c (record a { tries = a.tries + 1 }) else idles (record c { asked = Some a })
 
-abbrev pub ticks_for : Config → ClientView → Option Asked → ClientDid
+abbrev pub ticks_for : Config → ClientView → Option Asked → ClientEffects
 ticks_for config c None = idles c
 ticks_for config c (Some a) = ticked config c (record a { ticks = a.ticks + 1 })
 
 -- a tick of the client's clock
-unfoldable pub client_ticks : Config → ClientView → ClientDid
+unfoldable pub client_ticks : Config → ClientView → ClientEffects
 client_ticks config c = ticks_for config c c.asked
 
 -- ---- replies that fit
@@ -196,7 +196,7 @@ abbrev pub missing : Config → ClientView → List PartitionId
 missing config c = missing_for config c.asked
 
 -- the answer is the replies, joined in the order of their partitions
-abbrev pub answers : ClientView → Asked → ClientDid
+abbrev pub answers : ClientView → Asked → ClientEffects
 answers c a = record {
   client = record c { asked = None };
   frames = [];
@@ -204,32 +204,32 @@ answers c a = record {
 }
 
 -- once all concerned partitions have replied the client answers
-abbrev pub gathered : Config → ClientView → Asked → ClientDid
+abbrev pub gathered : Config → ClientView → Asked → ClientEffects
 gathered config c a = if have_all (concerned_of a.command config.partitions) a.parts then answers c a else idles (record c { asked = Some a })
 
 -- the reply of a partition that is concerned and hasn't replied; bytes that are no reply, and a reply that doesn't fit, are dropped
-abbrev pub replied_with : Config → ClientView → Asked → PartitionTable → Result Reply CodecFault → ClientDid
+abbrev pub replied_with : Config → ClientView → Asked → PartitionTable → Result Reply CodecFault → ClientEffects
 replied_with config c a p (Err fault) = idles c
 replied_with config c a p (Ok reply) =
     if fits p a.command reply then gathered config c (record a { parts = with_part p.id reply a.parts }) else idles c
 
 -- a reply of a partition that isn't there, isn't concerned or has replied is dropped
-abbrev pub replied_by : Config → ClientView → Asked → Option PartitionTable → List ℕ → ClientDid
+abbrev pub replied_by : Config → ClientView → Asked → Option PartitionTable → List ℕ → ClientEffects
 replied_by config c a None reply = idles c
 replied_by config c a (Some p) reply =
     if is_concerned a.command p && not (has_part a.parts p.id) then replied_with config c a p (reply_of reply) else idles c
 
 -- a reply to another number than the one that is waited for is dropped
-abbrev pub replied_for : Config → ClientView → ℕ → PartitionId → List ℕ → Option Asked → ClientDid
+abbrev pub replied_for : Config → ClientView → ℕ → PartitionId → List ℕ → Option Asked → ClientEffects
 replied_for config c seq partition reply None = idles c
 replied_for config c seq partition reply (Some a) =
     if a.seq == seq then replied_by config c a (partition_at config.partitions partition.0) reply else idles c
 
 -- the client is told a reply to its command of a number
-unfoldable pub replied : Config → ClientView → ℕ → PartitionId → List ℕ → ClientDid
+unfoldable pub replied : Config → ClientView → ℕ → PartitionId → List ℕ → ClientEffects
 replied config c seq partition reply = replied_for config c seq partition reply c.asked
 
 -- a Reply that names another client is dropped, and so is every frame of another kind
-unfoldable pub client_takes : Config → ClientView → Body → ClientDid
+unfoldable pub client_takes : Config → ClientView → Body → ClientEffects
 client_takes config c (bodies.Reply client seq partition reply) = if client.0 == c.id.0 then replied config c seq partition reply else idles c
 client_takes config c other = idles c

@@ -13,7 +13,7 @@ use Rattle.mrp_config.specs.Config.{Config}
 use Rattle.frames.specs.declared.body.Body.TheVariants as bodies
 use Rattle.frames.specs.declared.sent.Sent.{Sent}
 use Rattle.plain_model.specs.Rows.{ring, client, log, both_parts}
-use Rattle.protocol.specs.Client.{ClientView, ClientDid, new_client, asks, client_ticks, client_takes}
+use Rattle.protocol.specs.Client.{ClientView, ClientEffects, new_client, asks, client_ticks, client_takes}
 
 abbrev pub node : ℕ → NodeId
 node n = record { 0 = n }
@@ -22,7 +22,7 @@ abbrev pub partition : ℕ → PartitionId
 partition n = record { 0 = n }
 
 abbrev pub ring_of : ℕ → List NodeId → RingTable
-ring_of n acceptors = record { id = ring n; acceptors = acceptors }
+ring_of n acceptors = record { id = ring n; acceptors = acceptors; m = 1 }
 
 -- keys below m with log 0 on rings 0 and 2, and the others with log 1 on rings 1 and 2; a command is sent again every fourth tick
 abbrev pub two_parts : Config
@@ -37,22 +37,22 @@ pub data Happening : Type 0 where
   Ticks : Happening
   Replies : (partition seq : ℕ) → Reply → Happening
 
-abbrev pub does : ClientView → Happening → ClientDid
-does c (Asks command) = asks two_parts c command
-does c Ticks = client_ticks two_parts c
-does c (Replies number seq reply) = client_takes two_parts c (bodies.Reply c.id seq (partition number) (reply_bytes reply))
+abbrev pub applies_effects : ClientView → Happening → ClientEffects
+applies_effects c (Asks command) = asks two_parts c command
+applies_effects c Ticks = client_ticks two_parts c
+applies_effects c (Replies number seq reply) = client_takes two_parts c (bodies.Reply c.id seq (partition number) (reply_bytes reply))
 
 -- both, one after the other
-abbrev pub and_then : ClientDid → ClientDid → ClientDid
+abbrev pub and_then : ClientEffects → ClientEffects → ClientEffects
 and_then done next = record { client = next.client; frames = done.frames ++ next.frames; lines = done.lines ++ next.lines }
 
-abbrev pub does_after : ClientDid → List Happening → ClientDid
-does_after done [] = done
-does_after done (x ∷ xs) = does_after (and_then done (does done.client x)) xs
+abbrev pub applies_effects_after : ClientEffects → List Happening → ClientEffects
+applies_effects_after done [] = done
+applies_effects_after done (x ∷ xs) = applies_effects_after (and_then done (applies_effects done.client x)) xs
 
 -- what client 0 makes of these
-abbrev pub does_all : List Happening → ClientDid
-does_all xs = does_after (record { client = new_client (client 0); frames = []; lines = [] }) xs
+abbrev pub applies_effects_all : List Happening → ClientEffects
+applies_effects_all xs = applies_effects_after (record { client = new_client (client 0); frames = []; lines = [] }) xs
 
 -- the Submit of its number 1 on a ring to a node
 abbrev pub first_submit : ℕ → ℕ → List ℕ → Sent

@@ -9,8 +9,8 @@ use Rattle.command_codec.specs.Spelling.{batch_bytes}
 use Rattle.mrp_config.specs.declared.tables.PartitionTable.{PartitionTable}
 use Rattle.ring_link.specs.Silence.{Link}
 use Rattle.vote_state.specs.State.{no_votes}
-use Rattle.protocol.specs.Parts.{Ring, Part, Did}
-use Rattle.protocol.specs.Doing.{with_rounds}
+use Rattle.protocol.specs.Parts.{Ring, Part, Effects}
+use Rattle.protocol.specs.Effects.{with_rounds}
 use Rattle.protocol.specs.Learner.{new_part}
 use Rattle.protocol.specs.Acceptor.{prepares, accepts}
 use Rattle.protocol.specs.Coordinator.{leads, promised, submits}
@@ -78,21 +78,21 @@ abbrev pub batch_with : ℕ → Value
 batch_with seq = Batch (batch_bytes ((record { client = client; seq = seq; command = told seq }) ∷ []))
 
 -- what the node 0 does with a command, and then with another one
-abbrev pub first_submit : Did
+abbrev pub first_submit : Effects
 first_submit = submits (three 0) fresh_link led 0 client 1 (told 1)
 
-abbrev pub second_submit : Did
+abbrev pub second_submit : Effects
 second_submit = submits (three 0) fresh_link first_submit.part 0 client 2 (told 2)
 
 -- the node 1 voted for the second of the two alone, and then starts a ballot, which the node 2 promises
 abbrev pub voted_second : Part
 voted_second = (accepts (three 1) fresh_link (prepares (three 1) (opened (three 1)) (node 0) 3 0).part 3 1 2 1 (batch_with 2)).part
 
-abbrev pub taken_over : Did
+abbrev pub taken_over : Effects
 taken_over = promised (three 1) fresh_link (leads (three 1) fresh_link voted_second).part (node 2) 4 0 (2 ^ 40) 0 []
 
 -- a ring of one acceptor: the leveller's tick at the start of a ballot
-abbrev pub alone_levels : Did
+abbrev pub alone_levels : Effects
 alone_levels = levels alone fresh_link (leads alone fresh_link (opened alone)).part
 
 -- a round of the node 0 in which it gave its own answer

@@ -9,11 +9,11 @@ use Rattle.ring_link.specs.Silence.{Link, is_silent}
 use Rattle.skip_leveller.specs.Levelling.{with_tick, answer_of}
 use Rattle.frames.specs.declared.body.Body.TheVariants.{Prepare, Accept}
 use Rattle.frames.specs.declared.sent.Sent.{Sent}
-use Rattle.protocol.specs.Parts.{Ring, Campaign, Role, Idle, Active, Part, Did}
+use Rattle.protocol.specs.Parts.{Ring, Campaign, Role, Idle, Active, Part, Effects}
 use Rattle.protocol.specs.Rings.{is_node, is_own, owner_of, next_acceptor, sends}
-use Rattle.protocol.specs.Doing.{with_campaign, nothing_done, with_frames}
+use Rattle.protocol.specs.Effects.{with_campaign, no_effects, with_frames}
 use Rattle.protocol.specs.Ballots.{leads_now, greatest_seen}
-use Rattle.protocol.specs.Proposing.{has_room, own_mask, offers}
+use Rattle.protocol.specs.Proposing.{has_room, own_mask, offers, proposes_after}
 use Rattle.protocol.specs.Coordinator.{leads}
 
 -- ---- a tick
@@ -36,12 +36,12 @@ acceptors_before ring = before_first (λ (node : NodeId). is_own ring node) ring
 abbrev pub is_to_start : Ring → Link → Option NodeId → Bool
 is_to_start ring link owner = is_node ring.own owner || (is_gone link owner && are_silent link (acceptors_before ring))
 
-abbrev pub starts_idle : Ring → Link → Part → Role → Did
-starts_idle ring link part Idle = if is_to_start ring link (owner_of ring (greatest_seen part)) then leads ring link part else nothing_done part
-starts_idle ring link part (Active campaign) = nothing_done part
+abbrev pub starts_idle : Ring → Link → Part → Role → Effects
+starts_idle ring link part Idle = if is_to_start ring link (owner_of ring (greatest_seen part)) then leads ring link part else no_effects part
+starts_idle ring link part (Active campaign) = no_effects part
 
 -- an Idle coordinator that is to start does so, and proposes
-unfoldable pub starts_on_tick : Ring → Link → Part → Did
+unfoldable pub starts_on_tick : Ring → Link → Part → Effects
 starts_on_tick ring link part = starts_idle ring link part part.coordinator.role
 
 -- Prepare again, from where each acceptor is covered to, to those not covered to the end
@@ -57,14 +57,14 @@ accepts_again ring to ballot trim [] = []
 accepts_again ring to ballot trim (range ∷ ranges) =
     sends ring to (Accept ring.id ballot (max range.lo trim) range.hi (own_mask ring) range.value) ++ accepts_again ring to ballot trim ranges
 
-abbrev pub resends_in : Ring → Link → Part → Role → Did
-resends_in ring link part Idle = nothing_done part
+abbrev pub resends_in : Ring → Link → Part → Role → Effects
+resends_in ring link part Idle = no_effects part
 resends_in ring link part (Active campaign) =
     with_frames (accepts_again ring (next_acceptor ring link) campaign.ballot part.kept.trim campaign.outstanding)
-    (with_frames (prepares_again ring campaign.ballot ring.acceptors campaign.covered) (nothing_done part))
+    (with_frames (prepares_again ring campaign.ballot ring.acceptors campaign.covered) (no_effects part))
 
 -- what a resend beat asks of an Active coordinator
-unfoldable pub resends : Ring → Link → Part → Did
+unfoldable pub resends : Ring → Link → Part → Effects
 resends ring link part = resends_in ring link part part.coordinator.role
 
 -- ---- levelling
@@ -76,21 +76,21 @@ with_tick_taken campaign = record campaign { leveller = with_tick campaign.level
 abbrev pub shortfall_from : ℕ → ℕ → Decided
 shortfall_from next missing = record { lo = next; hi = min (next + missing) END; value = Skip }
 
--- a shortfall without room in the window, or at the end of all instances, is lost
-abbrev pub levels_by : Ring → Link → Part → Campaign → Option ℕ → Did
-levels_by ring link part campaign None = nothing_done (with_campaign campaign part)
+-- a shortfall without room in the window, or at the end of all instances, is lost; proposing follows, as after each proposal
+abbrev pub levels_by : Ring → Link → Part → Campaign → Option ℕ → Effects
+levels_by ring link part campaign None = no_effects (with_campaign campaign part)
 levels_by ring link part campaign (Some missing) =
     if has_room ring campaign && nat_lt campaign.next END
-    then offers ring link campaign (shortfall_from campaign.next missing) 0 (nothing_done part)
-    else nothing_done (with_campaign campaign part)
+    then proposes_after ring link (offers ring link campaign (shortfall_from campaign.next missing) 0 (no_effects part))
+    else no_effects (with_campaign campaign part)
 
-abbrev pub levels_in : Ring → Link → Part → Role → Did
-levels_in ring link part Idle = nothing_done part
+abbrev pub levels_in : Ring → Link → Part → Role → Effects
+levels_in ring link part Idle = no_effects part
 levels_in ring link part (Active campaign) =
     if leads_now ring campaign then levels_by ring link part (with_tick_taken campaign) (answer_of campaign.leveller)
-    else nothing_done part
+    else no_effects part
 
 -- The leveller takes a tick while the coordinator leads. At each delta-th tick Skip is proposed for as many instances from next
 -- on as are missing to its pace.
-unfoldable pub levels : Ring → Link → Part → Did
+unfoldable pub levels : Ring → Link → Part → Effects
 levels ring link part = levels_in ring link part part.coordinator.role

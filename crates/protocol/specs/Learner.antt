@@ -11,9 +11,9 @@ use Rattle.vote_state.specs.declared.ring.RingState.{RingState}
 use Rattle.vote_state.specs.Ranges.{ranges_of}
 use Rattle.ring_link.specs.Silence.{Link}
 use Rattle.frames.specs.declared.body.Body.TheVariants.{Decide}
-use Rattle.protocol.specs.Parts.{Ring, Pending, Role, Idle, Active, Coordinator, Learner, Part, Did}
+use Rattle.protocol.specs.Parts.{Ring, Pending, Role, Idle, Active, Coordinator, Learner, Part, Effects}
 use Rattle.protocol.specs.Rings.{is_acceptor, next_member, sends}
-use Rattle.protocol.specs.Doing.{with_learner, with_role, nothing_done, with_frames, with_learned}
+use Rattle.protocol.specs.Effects.{with_learner, with_role, no_effects, with_frames, with_learned}
 
 -- ---- entries at the instances of a range
 
@@ -179,15 +179,15 @@ learns ring part range = learns_news (is_news range part.learner) part range
 -- ---- frames that tell what was decided
 
 -- a Decide is passed on to the next member while it has to go further
-abbrev pub passed_on : Ring → Link → ℕ → ℕ → ℕ → Value → Did → Did
-passed_on ring link lo hi zero value did = did
-passed_on ring link lo hi (suc left) value did = with_frames (sends ring (next_member ring link) (Decide ring.id lo hi left value)) did
+abbrev pub passed_on : Ring → Link → ℕ → ℕ → ℕ → Value → Effects → Effects
+passed_on ring link lo hi zero value effects = effects
+passed_on ring link lo hi (suc left) value effects = with_frames (sends ring (next_member ring link) (Decide ring.id lo hi left value)) effects
 
 -- Decide: the range is to be learned, and passed on whether it is news or not.
-unfoldable pub decided : Ring → Link → Part → ℕ → ℕ → ℕ → Value → Did
+unfoldable pub decided : Ring → Link → Part → ℕ → ℕ → ℕ → Value → Effects
 decided ring link part lo hi left value =
-    with_learned (record { lo = lo; hi = hi; value = value }) (passed_on ring link lo hi left value (nothing_done part))
+    with_learned (record { lo = lo; hi = hi; value = value }) (passed_on ring link lo hi left value (no_effects part))
 
 -- Chosen: each of the ranges is to be learned
-unfoldable pub chosen : Ring → Part → List Decided → Did
+unfoldable pub chosen : Ring → Part → List Decided → Effects
 chosen ring part ranges = record { part = part; changes = []; frames = []; lines = []; learned = ranges }

@@ -1,6 +1,6 @@
 pub mod Lines
 pub mod Parts
-pub mod Doing
+pub mod Effects
 pub mod Rings
 pub mod Learner
 pub mod Acceptor

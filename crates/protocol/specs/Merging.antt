@@ -14,7 +14,7 @@ use Rattle.plain_model.specs.Replicas.{AppliedAll, applies, entries_of_batch}
 use Rattle.plain_model.specs.Tuples.{round_sizes, next_place, past}
 use Rattle.protocol.specs.Lines.{Line, Deliver, Reply}
 use Rattle.protocol.specs.Learner.{value_in}
-use Rattle.protocol.specs.Node.{Acting, View, RingPart, Service, Stage, Ready, Standing, part_at, with_stage, prints}
+use Rattle.protocol.specs.Node.{StepSoFar, View, RingPart, Service, Stage, Ready, Standing, part_at, with_stage, prints}
 
 -- what was learned at a place, of a ring of which the node is a member; nothing at the end of all instances
 abbrev pub value_of_part : Option RingPart → ℕ → Option Value
@@ -42,7 +42,7 @@ reply_frame node service r = record {
 }
 
 -- the lines and the frames of a batch's replies, in the order of its entries
-abbrev pub replying : Service → RingId × ℕ → List (ℕ × Entry × List ℕ) → Acting → Acting
+abbrev pub replying : Service → RingId × ℕ → List (ℕ × Entry × List ℕ) → StepSoFar → StepSoFar
 replying service place replied a = record a {
   lines = a.lines ++ map (reply_line a.view.id place) replied;
   replies = a.replies ++ map (reply_frame a.view.id service) replied;
@@ -59,35 +59,35 @@ abbrev pub passed_batch : Config → Standing → Standing
 passed_batch config standing = record standing { tuple = past (round_sizes config) standing.tuple; delivered = standing.delivered + 1 }
 
 -- A batch is delivered: its line, then its entries in order, each with the line and the frame of its reply where it has one.
-abbrev pub delivers_applied : Config → Service → Standing → RingId × ℕ → AppliedAll → Acting → Acting
+abbrev pub delivers_applied : Config → Service → Standing → RingId × ℕ → AppliedAll → StepSoFar → StepSoFar
 delivers_applied config service standing place applied a =
     with_stage service (Ready (record (passed_batch config standing) { replica = applied.replica }))
     (replying service place applied.replies (prints (Deliver a.view.id place.0 place.1 ∷ []) a))
 
-abbrev pub delivers : Config → Service → Standing → RingId × ℕ → List ℕ → Acting → Acting
+abbrev pub delivers : Config → Service → Standing → RingId × ℕ → List ℕ → StepSoFar → StepSoFar
 delivers config service standing place batch a =
     delivers_applied config service standing place (applies service.partition standing.replica (entries_of_batch batch)) a
 
-abbrev pub takes_place : Config → Service → Standing → RingId × ℕ → Value → Acting → Acting
+abbrev pub takes_place : Config → Service → Standing → RingId × ℕ → Value → StepSoFar → StepSoFar
 takes_place config service standing place Skip a = with_stage service (Ready (skipped config standing)) a
 takes_place config service standing place (Batch batch) a = delivers config service standing place batch a
 
-abbrev pub goes_on : (Acting → Acting) → Config → Service → Standing → RingId × ℕ → Option Value → Acting → Acting
-goes_on rest config service standing place None a = a
-goes_on rest config service standing place (Some value) a = rest (takes_place config service standing place value a)
+abbrev pub merges_place : (StepSoFar → StepSoFar) → Config → Service → Standing → RingId × ℕ → Option Value → StepSoFar → StepSoFar
+merges_place rest config service standing place None a = a
+merges_place rest config service standing place (Some value) a = rest (takes_place config service standing place value a)
 
-abbrev pub merges_stage : (Acting → Acting) → Config → Service → Stage → Acting → Acting
-merges_stage rest config service (Ready standing) a = goes_on rest config service standing (place_of config standing) (value_at_place a.view (place_of config standing)) a
+abbrev pub merges_stage : (StepSoFar → StepSoFar) → Config → Service → Stage → StepSoFar → StepSoFar
+merges_stage rest config service (Ready standing) a = merges_place rest config service standing (place_of config standing) (value_at_place a.view (place_of config standing)) a
 merges_stage rest config service other a = a
 
-abbrev pub merges_service : (Acting → Acting) → Config → Option Service → Acting → Acting
+abbrev pub merges_service : (StepSoFar → StepSoFar) → Config → Option Service → StepSoFar → StepSoFar
 merges_service rest config None a = a
 merges_service rest config (Some service) a = merges_stage rest config service service.stage a
 
-abbrev pub merges_up_to : ℕ → Config → Acting → Acting
+abbrev pub merges_up_to : ℕ → Config → StepSoFar → StepSoFar
 merges_up_to zero config a = a
 merges_up_to (suc most) config a = merges_service (merges_up_to most config) config a.view.service a
 
 -- A ready replica takes place after place while the next one is learned. There are fewer places than this below the end.
-unfoldable pub merges : Config → Acting → Acting
+unfoldable pub merges : Config → StepSoFar → StepSoFar
 merges config a = merges_up_to (2 ^ 44 + 1) config a

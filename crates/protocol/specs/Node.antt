@@ -12,7 +12,7 @@ use Rattle.gate_log.specs.Journal.{compact_calls}
 use Rattle.vote_journal.specs.Journal.{Journal, record_calls, recorded, recorded_end, compact_record}
 use Rattle.ring_link.specs.Silence.{Link}
 use Rattle.mrp_config.specs.declared.tables.PartitionTable.{PartitionTable}
-use Rattle.checkpoint.specs.Checks.{Checks, save_calls}
+use Rattle.checkpoint.specs.Checkpoints.{Checkpoints, save_calls}
 use Rattle.plain_model.specs.Replicas.{Replica}
 use Rattle.plain_model.specs.StateBytes.{state_bytes}
 use Rattle.plain_model.specs.Tuples.{instances}
@@ -60,7 +60,7 @@ pub record Service : Type 0 where
 pub record View : Type 0 where
   pub id : NodeId
   pub journal : Journal
-  pub checks : Checks
+  pub checkpoints : Checkpoints
   pub link : Link
   pub beat : ℕ
   -- the rings of which the node is a member, by id
@@ -98,7 +98,7 @@ pub record Stepped : Type 0 where
 abbrev pub calls_of : View → Work → Told → List Call
 calls_of view Nothing told = []
 calls_of view (Records changes) told = record_calls view.journal changes
-calls_of view (Saves tuple state) told = save_calls view.checks tuple state told
+calls_of view (Saves tuple state) told = save_calls view.checkpoints tuple state told
 calls_of view Compacts told = compact_calls view.journal.log (compact_record view.journal) told
 
 -- whether the journal's area would be longer than its limit: then no call is made
@@ -112,7 +112,7 @@ is_full view Compacts = nat_lt view.journal.log.limit (end_of (compact_record vi
 
 -- The view as the rules so far left it, the changes that are to be recorded, and what is to be sent and printed. Replies to
 -- clients are sent last.
-pub record Acting : Type 0 where
+pub record StepSoFar : Type 0 where
   pub view : View
   pub changes : List Change
   pub frames : List Sent
@@ -120,13 +120,13 @@ pub record Acting : Type 0 where
   pub lines : List Line
 
 -- nothing was done yet
-abbrev pub begun_with : View → Acting
+abbrev pub begun_with : View → StepSoFar
 begun_with view = record { view = view; changes = []; frames = []; replies = []; lines = [] }
 
-abbrev pub prints : List Line → Acting → Acting
+abbrev pub prints : List Line → StepSoFar → StepSoFar
 prints lines a = record a { lines = a.lines ++ lines }
 
-abbrev pub sends_all : List Sent → Acting → Acting
+abbrev pub sends_all : List Sent → StepSoFar → StepSoFar
 sends_all frames a = record a { frames = a.frames ++ frames }
 
 -- the changes of a step as one record
@@ -135,7 +135,7 @@ work_of [] = Nothing
 work_of (change ∷ changes) = Records (change ∷ changes)
 
 -- the step is over: its changes are one record, and replies stand last
-abbrev pub finished : Acting → Stepped
+abbrev pub finished : StepSoFar → Stepped
 finished a = record {
   view = record a.view { journal = recorded a.view.journal a.changes };
   work = work_of a.changes;
@@ -157,10 +157,10 @@ abbrev pub with_part_in : RingId → Part → List RingPart → List RingPart
 with_part_in ring part [] = []
 with_part_in ring part (p ∷ parts) = if p.ring.id.0 == ring.0 then record p { part = part } ∷ parts else p ∷ with_part_in ring part parts
 
-abbrev pub with_part : Ring → Part → Acting → Acting
+abbrev pub with_part : Ring → Part → StepSoFar → StepSoFar
 with_part ring part a = record a { view = record a.view { parts = with_part_in ring.id part a.view.parts } }
 
-abbrev pub with_stage : Service → Stage → Acting → Acting
+abbrev pub with_stage : Service → Stage → StepSoFar → StepSoFar
 with_stage service stage a = record a { view = record a.view { service = Some (record service { stage = stage }) } }
 
 -- ---- what is shown of a node

@@ -7,11 +7,11 @@ use Rattle.mrp_config.specs.declared.tables.PartitionTable.{PartitionTable}
 use Rattle.vote_state.specs.State.{State, ring_at}
 use Rattle.vote_journal.specs.Journal.{Journal}
 use Rattle.ring_link.specs.Silence.{link_after}
-use Rattle.checkpoint.specs.Checks.{Checks}
+use Rattle.checkpoint.specs.Checkpoints.{Checkpoints}
 use Rattle.protocol.specs.Parts.{Ring}
 use Rattle.protocol.specs.Rings.{ring_of, is_member}
 use Rattle.protocol.specs.Learner.{new_part}
-use Rattle.protocol.specs.Node.{View, RingPart, Recovering, Stepped, begun_with, finished, Acting}
+use Rattle.protocol.specs.Node.{View, RingPart, Recovering, Stepped, begun_with, finished, StepSoFar}
 use Rattle.protocol.specs.Recovery.{begins}
 
 -- the partition of which a node is a replica
@@ -28,11 +28,11 @@ parts_of config id state [] = []
 parts_of config id state (ring ∷ rings) =
     if is_member (ring_of config id ring) then part_of_ring state (ring_of config id ring) ∷ parts_of config id state rings else parts_of config id state rings
 
-abbrev pub view_of : Config → NodeId → Journal → Checks → View
-view_of config id journal checks = record {
+abbrev pub view_of : Config → NodeId → Journal → Checkpoints → View
+view_of config id journal checkpoints = record {
   id = id;
   journal = journal;
-  checks = checks;
+  checkpoints = checkpoints;
   link = link_after config.suspect [];
   beat = 0;
   parts = parts_of config id journal.state config.rings;
@@ -40,12 +40,12 @@ view_of config id journal checks = record {
 }
 
 -- a replica begins its first attempt
-abbrev pub begins_first : Config → Option PartitionTable → Acting → Acting
+abbrev pub begins_first : Config → Option PartitionTable → StepSoFar → StepSoFar
 begins_first config None a = a
 begins_first config (Some partition) a =
     begins config (record { partition = partition; attempts = 0; stage = Recovering (record { number = 0; ticks = 0; answers = []; choice = None }) }) a
 
 -- A node has opened. It hasn't heard of any other, no coordinator is active, and a replica begins its first attempt.
-unfoldable pub opened : Config → NodeId → Journal → Checks → Stepped
-opened config id journal checks =
-    finished (begins_first config (partition_of config.partitions id) (begun_with (view_of config id journal checks)))
+unfoldable pub opened : Config → NodeId → Journal → Checkpoints → Stepped
+opened config id journal checkpoints =
+    finished (begins_first config (partition_of config.partitions id) (begun_with (view_of config id journal checkpoints)))

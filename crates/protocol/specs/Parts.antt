@@ -81,7 +81,7 @@ pub record Part : Type 0 where
 
 -- What a rule makes: the part as it is then, and what is added. A range that the rule decides is to be learned: the node
 -- does that after the rule, range by range.
-pub record Did : Type 0 where
+pub record Effects : Type 0 where
   pub part : Part
   pub changes : List Change
   pub frames : List Sent

@@ -13,11 +13,11 @@ use Rattle.vote_state.specs.declared.cast.Cast.{Cast}
 use Rattle.ring_link.specs.Silence.{Link}
 use Rattle.skip_leveller.specs.Levelling.{Levelling, with_started}
 use Rattle.plain_model.specs.Pages.{front_within}
-use Rattle.protocol.specs.Parts.{Ring, Pending, Campaign, Role, Idle, Active, Part, Did}
+use Rattle.protocol.specs.Parts.{Ring, Pending, Campaign, Role, Idle, Active, Part, Effects}
 use Rattle.protocol.specs.Rings.{position_of, bit_of}
-use Rattle.protocol.specs.Doing.{with_campaign, nothing_done, with_part}
+use Rattle.protocol.specs.Effects.{with_campaign, no_effects, with_part}
 use Rattle.protocol.specs.Learner.{first_gap}
-use Rattle.protocol.specs.Acceptor.{votes_for, goes_on}
+use Rattle.protocol.specs.Acceptor.{votes_for, decides_or_forwards}
 use Rattle.protocol.specs.Ballots.{covered_to, leads_now, reported}
 
 -- ---- the due value
@@ -157,41 +157,41 @@ vote_of ballot range = record { lo = range.lo; hi = range.hi; ballot = ballot; v
 
 -- A proposal is the own vote, and then Accept with the own bit to the next acceptor. In a ring of one acceptor that bit is a
 -- majority: the range is decided at once.
-unfoldable pub offers : Ring → Link → Campaign → Decided → ℕ → Did → Did
-offers ring link campaign range taken did =
-    goes_on ring link (own_mask ring) (vote_of campaign.ballot range)
-    (votes_for ring (vote_of campaign.ballot range) (with_part (with_campaign (after_offer ring range taken campaign) did.part) did))
+unfoldable pub offers : Ring → Link → Campaign → Decided → ℕ → Effects → Effects
+offers ring link campaign range taken effects =
+    decides_or_forwards ring link (own_mask ring) (vote_of campaign.ballot range)
+    (votes_for ring (vote_of campaign.ballot range) (with_part (with_campaign (after_offer ring range taken campaign) effects.part) effects))
 
 -- what comes next in proposing: nothing more, or a proposal after what was done
 pub data Turn : Type 0 where
-  Stops : Did → Turn
-  Proposes : Campaign → Decided → (taken : ℕ) → Did → Turn
+  Stops : Effects → Turn
+  Proposes : Campaign → Decided → (taken : ℕ) → Effects → Turn
 
-abbrev pub turn_by : Did → Campaign → Choice → Turn
-turn_by did campaign Rests = Stops (with_part (with_campaign campaign did.part) did)
-turn_by did campaign (Offers range taken) = Proposes campaign range taken did
+abbrev pub turn_by : Effects → Campaign → Choice → Turn
+turn_by effects campaign Rests = Stops (with_part (with_campaign campaign effects.part) effects)
+turn_by effects campaign (Offers range taken) = Proposes campaign range taken effects
 
-abbrev pub turn_with : Ring → Did → Campaign → Turn
-turn_with ring did campaign = turn_by did campaign (choice ring campaign did.part.learner.held)
+abbrev pub turn_with : Ring → Effects → Campaign → Turn
+turn_with ring effects campaign = turn_by effects campaign (choice ring campaign effects.part.learner.held)
 
-abbrev pub turn_in : Ring → Did → Role → Turn
-turn_in ring did Idle = Stops did
-turn_in ring did (Active campaign) = turn_with ring did (advanced did.part campaign)
+abbrev pub turn_in : Ring → Effects → Role → Turn
+turn_in ring effects Idle = Stops effects
+turn_in ring effects (Active campaign) = turn_with ring effects (advanced effects.part campaign)
 
-abbrev pub turn_of : Ring → Did → Turn
-turn_of ring did = turn_in ring did did.part.coordinator.role
+abbrev pub turn_of : Ring → Effects → Turn
+turn_of ring effects = turn_in ring effects effects.part.coordinator.role
 
 -- proposals one after another, at most n
-unfoldable pub proposing : ℕ → Ring → Link → Turn → Did
-proposing zero ring link (Stops did) = did
-proposing zero ring link (Proposes campaign range taken did) = did
-proposing (suc n) ring link (Stops did) = did
-proposing (suc n) ring link (Proposes campaign range taken did) =
-    proposing n ring link (turn_of ring (offers ring link campaign range taken did))
+unfoldable pub proposing : ℕ → Ring → Link → Turn → Effects
+proposing zero ring link (Stops effects) = effects
+proposing zero ring link (Proposes campaign range taken effects) = effects
+proposing (suc n) ring link (Stops effects) = effects
+proposing (suc n) ring link (Proposes campaign range taken effects) =
+    proposing n ring link (turn_of ring (offers ring link campaign range taken effects))
 
 -- Proposing after what was done: each proposal passes an instance at least, so that there are at most END of them.
-unfoldable pub proposes_after : Ring → Link → Did → Did
-proposes_after ring link did = proposing END ring link (turn_of ring did)
+unfoldable pub proposes_after : Ring → Link → Effects → Effects
+proposes_after ring link effects = proposing END ring link (turn_of ring effects)
 
-abbrev pub proposes : Ring → Link → Part → Did
-proposes ring link part = proposes_after ring link (nothing_done part)
+abbrev pub proposes : Ring → Link → Part → Effects
+proposes ring link part = proposes_after ring link (no_effects part)

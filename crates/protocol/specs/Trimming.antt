@@ -6,16 +6,16 @@ use Rattle.mrp_config.specs.Config.{has_node}
 use Rattle.ring_link.specs.Silence.{Link}
 use Rattle.frames.specs.declared.body.Body.TheVariants.{AskSafe, TrimTo}
 use Rattle.protocol.specs.Lines.{Trim}
-use Rattle.protocol.specs.Parts.{Ring, Round, Rounds, Part, Did}
+use Rattle.protocol.specs.Parts.{Ring, Round, Rounds, Part, Effects}
 use Rattle.protocol.specs.Rings.{replicas_of, by_id, is_subscribed, other_acceptors, sends_each}
-use Rattle.protocol.specs.Doing.{with_rounds, nothing_done, with_part, with_frames, with_line}
+use Rattle.protocol.specs.Effects.{with_rounds, no_effects, with_part, with_frames, with_line}
 use Rattle.protocol.specs.Acceptor.{trims_to}
 use Rattle.protocol.specs.Ballots.{role_leads}
 use Rattle.protocol.specs.Proposing.{proposes_after}
 
 -- Trimmed and TrimTo at an acceptor: a trim above the own one is taken; then proposing
-unfoldable pub trimmed : Ring → Link → Part → ℕ → Did
-trimmed ring link part trim = proposes_after ring link (trims_to ring trim (nothing_done part))
+unfoldable pub trimmed : Ring → Link → Part → ℕ → Effects
+trimmed ring link part trim = proposes_after ring link (trims_to ring trim (no_effects part))
 
 -- ---- what a round's answers say
 
@@ -76,22 +76,22 @@ abbrev pub in_round : Option Round → Part → Part
 in_round current part = with_rounds (with_current current part.rounds) part
 
 -- what may go, goes: a line, the own trim, and word of it to the other acceptors
-abbrev pub trims_all : Ring → ℕ → Did → Did
-trims_all ring inst did =
+abbrev pub trims_all : Ring → ℕ → Effects → Effects
+trims_all ring inst effects =
     with_frames (sends_each ring (other_acceptors ring) (TrimTo ring.id inst))
-    (trims_to ring inst (with_line (Trim ring.own ring.id inst) did))
+    (trims_to ring inst (with_line (Trim ring.own ring.id inst) effects))
 
 -- where it is above the own trim, which may have risen since the round was asked
-abbrev pub trims_above : Ring → ℕ → Did → Did
-trims_above ring inst did = if nat_lt did.part.kept.trim inst then trims_all ring inst did else did
+abbrev pub trims_above : Ring → ℕ → Effects → Effects
+trims_above ring inst effects = if nat_lt effects.part.kept.trim inst then trims_all ring inst effects else effects
 
 -- a round that has its least answer ends, with proposing; any other is kept
-abbrev pub ends_by : Ring → Link → Round → Did → Option ℕ → Did
-ends_by ring link round did None = with_part (in_round (Some round) did.part) did
-ends_by ring link round did (Some inst) = proposes_after ring link (trims_above ring inst (with_part (in_round None did.part) did))
+abbrev pub ends_by : Ring → Link → Round → Effects → Option ℕ → Effects
+ends_by ring link round effects None = with_part (in_round (Some round) effects.part) effects
+ends_by ring link round effects (Some inst) = proposes_after ring link (trims_above ring inst (with_part (in_round None effects.part) effects))
 
-abbrev pub goes_on_round : Ring → Link → Round → Did → Did
-goes_on_round ring link round did = ends_by ring link round did (least ring round)
+abbrev pub goes_on_round : Ring → Link → Round → Effects → Effects
+goes_on_round ring link round effects = ends_by ring link round effects (least ring round)
 
 -- the own answer counts at once
 abbrev pub with_own_answer : Ring → Option ℕ → Round → Round
@@ -106,20 +106,20 @@ abbrev pub with_asked : Part → Part
 with_asked part = with_rounds (record { asked = suc part.rounds.asked; current = None }) part
 
 -- A new round: the replicas of the subscribed partitions are asked, by id.
-abbrev pub asks : Ring → Link → Part → Option ℕ → Did
+abbrev pub asks : Ring → Link → Part → Option ℕ → Effects
 asks ring link part own_safe =
     goes_on_round ring link (with_own_answer ring own_safe (next_round part))
-    (with_frames (sends_each ring (by_id (replicas_of ring.subscribers)) (AskSafe ring.id (suc part.rounds.asked))) (nothing_done (with_asked part)))
+    (with_frames (sends_each ring (by_id (replicas_of ring.subscribers)) (AskSafe ring.id (suc part.rounds.asked))) (no_effects (with_asked part)))
 
 -- a new round where the coordinator leads; the own answer is given at a replica of a subscribed partition
-unfoldable pub asks_round : Ring → Link → Part → Option ℕ → Did
-asks_round ring link part own_safe = if role_leads ring part.coordinator.role then asks ring link part own_safe else nothing_done part
+unfoldable pub asks_round : Ring → Link → Part → Option ℕ → Effects
+asks_round ring link part own_safe = if role_leads ring part.coordinator.role then asks ring link part own_safe else no_effects part
 
-abbrev pub answers_in : Ring → Link → Part → NodeId → ℕ → ℕ → Option Round → Did
-answers_in ring link part from round inst None = nothing_done part
+abbrev pub answers_in : Ring → Link → Part → NodeId → ℕ → ℕ → Option Round → Effects
+answers_in ring link part from round inst None = no_effects part
 answers_in ring link part from round inst (Some current) =
-    if round == current.number then goes_on_round ring link (with_answer ring from inst current) (nothing_done part) else nothing_done part
+    if round == current.number then goes_on_round ring link (with_answer ring from inst current) (no_effects part) else no_effects part
 
 -- Safe: an answer to the current round, also while the coordinator doesn't lead
-unfoldable pub answers : Ring → Link → Part → NodeId → ℕ → ℕ → Did
+unfoldable pub answers : Ring → Link → Part → NodeId → ℕ → ℕ → Effects
 answers ring link part from round inst = answers_in ring link part from round inst part.rounds.current

@@ -26,3 +26,5 @@ pub mod Suspected_leader
 pub mod Gone_checkpoint
 pub mod Trimmed_too_far
 pub mod Told_trim
+pub mod Levelling_nodes
+pub mod Newer_leader

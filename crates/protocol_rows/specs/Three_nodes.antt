@@ -17,6 +17,6 @@ config = record {
   journal = 1048576;
   nodes = (record { id = node 0; address = 49 ∷ 50 ∷ 55 ∷ 46 ∷ 48 ∷ 46 ∷ 48 ∷ 46 ∷ 49 ∷ 58 ∷ 55 ∷ 49 ∷ 48 ∷ 48 ∷ [] }) ∷ (record { id = node 1; address = 49 ∷ 50 ∷ 55 ∷ 46 ∷ 48 ∷ 46 ∷ 48 ∷ 46 ∷ 49 ∷ 58 ∷ 55 ∷ 49 ∷ 48 ∷ 49 ∷ [] }) ∷ (record { id = node 2; address = 49 ∷ 50 ∷ 55 ∷ 46 ∷ 48 ∷ 46 ∷ 48 ∷ 46 ∷ 49 ∷ 58 ∷ 55 ∷ 49 ∷ 48 ∷ 50 ∷ [] }) ∷ [];
   clients = (record { id = client 0; address = 49 ∷ 50 ∷ 55 ∷ 46 ∷ 48 ∷ 46 ∷ 48 ∷ 46 ∷ 49 ∷ 58 ∷ 55 ∷ 50 ∷ 48 ∷ 48 ∷ [] }) ∷ (record { id = client 1; address = 49 ∷ 50 ∷ 55 ∷ 46 ∷ 48 ∷ 46 ∷ 48 ∷ 46 ∷ 49 ∷ 58 ∷ 55 ∷ 50 ∷ 48 ∷ 49 ∷ [] }) ∷ [];
-  rings = (record { id = ring 0; acceptors = node 0 ∷ node 1 ∷ node 2 ∷ [] }) ∷ [];
+  rings = (record { id = ring 0; acceptors = node 0 ∷ node 1 ∷ node 2 ∷ []; m = 1 }) ∷ [];
   partitions = (record { id = partition 0; replicas = node 0 ∷ node 1 ∷ node 2 ∷ []; rings = ring 0 ∷ []; home = ring 0; from = []; to = []; logs = log 0 ∷ []; trim_quorum = 2; recovery_quorum = 2 }) ∷ [];
 }

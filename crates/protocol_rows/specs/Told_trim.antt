@@ -23,7 +23,7 @@ pub record Shown : Type 0 where
   pub lines : List Line
 
 abbrev pub shown_of : Stepped → Shown
-shown_of did = record { work = did.work; frames = did.frames; lines = did.lines }
+shown_of effects = record { work = effects.work; frames = effects.frames; lines = effects.lines }
 
 abbrev pub told : Frame
 told = record { from = Node (node 0); body = Trimmed (ring 0) 4 }

@@ -74,10 +74,10 @@ lines =
     line.Saved (node 1) (2 ∷ []) ∷
     line.Saved (node 0) (2 ∷ []) ∷
     line.Trim (node 0) (ring 0) 2 ∷
-    line.Frame 33 (Some (record { from = Node (node 0); to = Node (node 1); bytes = 77 ∷ 82 ∷ 1 ∷ 10 ∷ 0 ∷ 0 ∷ 0 ∷ 0 ∷ 0 ∷ 0 ∷ 0 ∷ 0 ∷ 0 ∷ 0 ∷ 1 ∷ [] })) ∷
-    line.Frame 38 (Some (record { from = Node (node 1); to = Node (node 0); bytes = 77 ∷ 82 ∷ 1 ∷ 11 ∷ 0 ∷ 1 ∷ 0 ∷ 0 ∷ 0 ∷ 0 ∷ 0 ∷ 0 ∷ 0 ∷ 0 ∷ 1 ∷ 0 ∷ 0 ∷ 0 ∷ 0 ∷ 0 ∷ 0 ∷ 0 ∷ 2 ∷ [] })) ∷
-    line.Frame 39 (Some (record { from = Node (node 0); to = Node (node 1); bytes = 77 ∷ 82 ∷ 1 ∷ 12 ∷ 0 ∷ 0 ∷ 0 ∷ 0 ∷ 0 ∷ 0 ∷ 0 ∷ 0 ∷ 0 ∷ 0 ∷ 2 ∷ [] })) ∷
-    line.Frame 40 (Some (record { from = Node (node 0); to = Node (node 2); bytes = 77 ∷ 82 ∷ 1 ∷ 12 ∷ 0 ∷ 0 ∷ 0 ∷ 0 ∷ 0 ∷ 0 ∷ 0 ∷ 0 ∷ 0 ∷ 0 ∷ 2 ∷ [] })) ∷
+    line.Frame 33 (Some (record { from = Node (node 0); to = Node (node 1); bytes = 77 ∷ 82 ∷ 2 ∷ 10 ∷ 0 ∷ 0 ∷ 0 ∷ 0 ∷ 0 ∷ 0 ∷ 0 ∷ 0 ∷ 0 ∷ 0 ∷ 1 ∷ [] })) ∷
+    line.Frame 38 (Some (record { from = Node (node 1); to = Node (node 0); bytes = 77 ∷ 82 ∷ 2 ∷ 11 ∷ 0 ∷ 1 ∷ 0 ∷ 0 ∷ 0 ∷ 0 ∷ 0 ∷ 0 ∷ 0 ∷ 0 ∷ 1 ∷ 0 ∷ 0 ∷ 0 ∷ 0 ∷ 0 ∷ 0 ∷ 0 ∷ 2 ∷ [] })) ∷
+    line.Frame 39 (Some (record { from = Node (node 0); to = Node (node 1); bytes = 77 ∷ 82 ∷ 2 ∷ 12 ∷ 0 ∷ 0 ∷ 0 ∷ 0 ∷ 0 ∷ 0 ∷ 0 ∷ 0 ∷ 0 ∷ 0 ∷ 2 ∷ [] })) ∷
+    line.Frame 40 (Some (record { from = Node (node 0); to = Node (node 2); bytes = 77 ∷ 82 ∷ 2 ∷ 12 ∷ 0 ∷ 0 ∷ 0 ∷ 0 ∷ 0 ∷ 0 ∷ 0 ∷ 0 ∷ 0 ∷ 0 ∷ 2 ∷ [] })) ∷
     line.Frame 41 None ∷
     line.End 24 ∷
     []

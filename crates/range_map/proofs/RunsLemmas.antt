@@ -13,7 +13,7 @@ use Rattle.std.proofs.lemmas.Bool.{cases_lt, cases_eq}
 use Rattle.std.proofs.lemmas.Bool.Decides.{nat_tests}
 use Rattle.std.proofs.lemmas.Map.Keys.{sorted_head, sorted_tail, le_from_not_gt, ge_from_not_lt}
 use Rattle.range_map.specs.declared.run.Run.{Run}
-use Rattle.range_map.specs.Runs.{held, run_from, IsPlacedFrom, IsApart, IsCover, IsBare, IsLastUpTo}
+use Rattle.range_map.specs.Runs.{held, run_from, IsPlacedFrom, IsApart, IsCover, IsBare, IsLastUpTo, IsFirstWithin}
 
 -- ---- numbers
 
@@ -217,17 +217,26 @@ module _ {T : Type 0} where
         last = λ a r h from. ge_from_not_lt lo a (range.4 (lo, run) rest is a (tt, not_gt_from_le a i from) (ap is_some h));
       }
 
-  pub first_from_range : (m : BTreeMap ℕ (Run T)) (es rest : List (ℕ × Run T)) (lo hi first : ℕ) (run : Run T) → IsRangeOf nat_cmp (Included lo) (Excluded hi) m es → es ≡ (first, run) ∷ rest → (a : ℕ) → lo ≤ a → a < first → run_from m.entries a ≡ None
-  first_from_range m es rest lo hi first run range is a from before =
-      elim (option_cases (run_from m.entries a)) [
-        | inl none ↦ none
-        | inr some ↦
-            let least = range.2 a (not_gt_from_le lo a from, less_from_lt a hi (first_below a before)) (ap is_some some.1) in
-            let at_most : first ≤ a = le_from_not_gt first a (subst (λ (x : List (ℕ × Run T)). IfSome (slice_get x 0) (λ e. IsLeBy nat_cmp e.0 a)) is least) in
-            absurd (omega arith)
-      ]
+  pub first_from_range : (m : BTreeMap ℕ (Run T)) (es rest : List (ℕ × Run T)) (lo hi first : ℕ) (run : Run T) → IsRangeOf nat_cmp (Included lo) (Excluded hi) m es → es ≡ (first, run) ∷ rest → IsFirstWithin (run_from m.entries) lo hi first run
+  first_from_range m es rest lo hi first run range is = record {
+    found = inside.1;
+    from_there = le_from_not_gt lo first inside.0.0;
+    below = lt_from_less first hi inside.0.1;
+    none_before = earlier;
+  }
     where
+      inside : IsEntryInRange nat_cmp (Included lo) (Excluded hi) m (first, run)
+      inside = subst (λ (x : List (ℕ × Run T)). IfSome (slice_get x 0) (IsEntryInRange nat_cmp (Included lo) (Excluded hi) m)) is range.1
+
       first_below : (b : ℕ) → b < first → b < hi
-      first_below b lt =
-          let inside = subst (λ (x : List (ℕ × Run T)). IfSome (slice_get x 0) (IsEntryInRange nat_cmp (Included lo) (Excluded hi) m)) is range.1 in
-          let below = lt_from_less first hi inside.0.1 in omega arith
+      first_below b lt = let below = lt_from_less first hi inside.0.1 in omega arith
+
+      earlier : (a : ℕ) → lo ≤ a → a < first → run_from m.entries a ≡ None
+      earlier a from before =
+          elim (option_cases (run_from m.entries a)) [
+            | inl none ↦ none
+            | inr some ↦
+                let least = range.2 a (not_gt_from_le lo a from, less_from_lt a hi (first_below a before)) (ap is_some some.1) in
+                let at_most : first ≤ a = le_from_not_gt first a (subst (λ (x : List (ℕ × Run T)). IfSome (slice_get x 0) (λ e. IsLeBy nat_cmp e.0 a)) is least) in
+                absurd (omega arith)
+          ]

@@ -3,8 +3,8 @@ use Rattle.std.proofs.Common.{◌≡◌, ℕ, suc, ◌^◌, ◌<◌, ◌≤◌, 
 use Rattle.std.specs.Prelude.{◌⊎◌, Option, Some, None, IsSome, is_some, MatchOption, ⊤, nat_le, nat_lt, max, if◌then◌else◌}
 use Rattle.std.proofs.lemmas.Bool.{cases_lt, cases_eq}
 use Rattle.range_map.specs.declared.run.Run.{Run}
-use Rattle.range_map.specs.Entries.{value_at, IsIncreasingFrom, entries_from, with_range, IsNextGap, IsNextHeld, IsRunRound}
-use Rattle.range_map.specs.Runs.{entries_of, held, run_from, IsPlacedFrom, IsApart, IsCover, IsBare, IsMaximal, seen_at, Drops, Replaces}
+use Rattle.range_map.specs.Entries.{value_at, IsIncreasingFrom, entries_from, with_range, IsNextGap, IsNextHeld, IsNextRun, IsRunRound}
+use Rattle.range_map.specs.Runs.{entries_of, held, run_from, IsPlacedFrom, IsApart, IsFirstWithin, IsCover, IsBare, IsMaximal, seen_at, Drops, Replaces}
 use Rattle.range_map.proofs.RunsLemmas.{option_cases, apart_from_placed, Holder, Covered, Bare, holder, held_cover, held_bare}
 use Rattle.range_map.proofs.SetLemmas.{le-true, le-false}
 use Rattle.range_map.proofs.EntryLemmas.{same_entries, increasing_entries_of, increasing_entries_from, increasing_with_range, value_at-seen, value_at-entries_from, value_at-with_range}
@@ -149,12 +149,6 @@ module _ {T : Type 0} (floor : ℕ) (es : List (ℕ × Run T)) (v : List (ℕ ×
           let pos = apart.filled first found.0 found.1 in
           ap is_some (get_cover first first found.0 placed (omega arith) (record { found = found.1; begins = omega arith; ends = pos }))
 
-  pub after_begin : (from start : ℕ) (o : Option ℕ) → start ≡ max from floor → IsPlacedFrom 0 es → IsBare (run_from es) start
-      → MatchOption o ((a : ℕ) → start ≤ a → a < 2 ^ 40 → run_from es a ≡ None) (λ first. IsSome (run_from es first)) → MatchOption o ⊤ (λ first. (start ≤ first) × (first < 2 ^ 40))
-      → MatchOption o ⊤ (λ first. (a : ℕ) → start ≤ a → a < first → run_from es a ≡ None) → MatchOption o ((i : ℕ) → from ≤ i → value_at i v ≡ None) (λ next. IsNextHeld v from next)
-  after_begin from start None start_is placed bare begins in_range none = after_none from start start_is placed bare begins
-  after_begin from start (Some first) start_is placed bare begins in_range none = after_first from start first start_is placed bare in_range.0 begins none
-
   -- ---- the longest run
 
   pub run_round : (i lo : ℕ) (run : Run T) (begin : ℕ) → begin ≡ max lo floor → IsMaximal es → floor ≤ i → IsCover (run_from es) i lo run → IsRunRound v i begin run.end
@@ -212,3 +206,27 @@ module _ {T : Type 0} (floor : ℕ) (es : List (ℕ × Run T)) (v : List (ℕ ×
                   maximal.joined lo run s c.found (subst (λ x. run_from es x ≡ Some s) at cover.found) (λ z. omega arith) (λ z. omega arith) (sym (value_of run.end b s cover held_is))
             ]
           ]
+
+  -- ---- the first run from an instance on
+
+  run_there : (from i lo : ℕ) (run : Run T) → IsMaximal es → floor ≤ i → IsCover (run_from es) i lo run → IsNextHeld v from i → IsNextRun v from i run.end run.value
+  run_there from i lo run maximal above c next = record {
+    begins = next;
+    some = c.ends;
+    equal = λ j a b. let begins = c.begins in get_cover j lo run maximal.placed (omega arith) (record { found = c.found; begins = omega arith; ends = b });
+    longest = λ same. round.longest_above (same ∙ sym (get_cover i lo run maximal.placed above c));
+  }
+    where
+      round : IsRunRound v i (max lo floor) run.end
+      round = run_round i lo run (max lo floor) refl maximal above c
+
+  pub run_here : (from start lo : ℕ) (run : Run T) → start ≡ max from floor → IsMaximal es → IsCover (run_from es) start lo run → IsNextRun v from start run.end run.value
+  run_here from start lo run start_is maximal c = run_there from start lo run maximal (omega arith) c (after_here from start lo run start_is maximal.placed c)
+
+  pub run_later : (from start first : ℕ) (run : Run T) → start ≡ max from floor → IsMaximal es → IsBare (run_from es) start → IsFirstWithin (run_from es) start (2 ^ 40) first run →
+      IsNextRun v from first run.end run.value
+  run_later from start first run start_is maximal bare is =
+      let there = is.from_there in
+      let apart = apart_from_placed 0 es maximal.placed in
+      run_there from first first run maximal (omega arith) (record { found = is.found; begins = omega arith; ends = apart.filled first run is.found })
+      (after_first from start first start_is maximal.placed bare there (ap is_some is.found) is.none_before)

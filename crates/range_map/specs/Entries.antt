@@ -1,5 +1,5 @@
 -- A finite map from instances to values, as the list of its entries in increasing order of instance.
-use Rattle.std.specs.Prelude.{◌≡◌, ◌≢◌, ℕ, zero, suc, ◌-◌, ◌<◌, ◌≤◌, nat_eq, nat_le, nat_lt, List, [], ◌∷◌, ◌++◌, Option, None, IsSome, filter}
+use Rattle.std.specs.Prelude.{◌≡◌, ◌≢◌, ℕ, zero, suc, ◌-◌, ◌<◌, ◌≤◌, nat_eq, nat_le, nat_lt, List, [], ◌∷◌, ◌++◌, Option, Some, None, IsSome, filter}
 use Rattle.std.specs.Map.{lookup}
 
 module _ {T : Type 0} where
@@ -44,6 +44,13 @@ module _ {T : Type 0} where
     pub from_there : from ≤ next
     pub held : IsSome (value_at next es)
     pub none_before : (i : ℕ) → from ≤ i → i < next → value_at i es ≡ None
+
+  -- the range of one value that begins at the least held instance from `from` on and can't be longer
+  pub record IsNextRun (es : List (ℕ × T)) (from lo hi : ℕ) (value : T) : Type 0 where
+    pub begins : IsNextHeld es from lo
+    pub some : lo < hi
+    pub equal : (j : ℕ) → lo ≤ j → j < hi → value_at j es ≡ Some value
+    pub longest : value_at hi es ≢ Some value
 
   -- the longest range round an instance that holds what the instance holds
   pub record IsRunRound (es : List (ℕ × T)) (i lo hi : ℕ) : Type 0 where

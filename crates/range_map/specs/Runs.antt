@@ -57,6 +57,13 @@ module _ {T : Type 0} where
     pub begins : lo ≤ i
     pub ends : i < run.end
 
+  -- the first run that begins from lo on, where it begins below hi
+  pub record IsFirstWithin (g : ℕ → Option (Run T)) (lo hi first : ℕ) (run : Run T) : Type 0 where
+    pub found : g first ≡ Some run
+    pub from_there : lo ≤ first
+    pub below : first < hi
+    pub none_before : (a : ℕ) → lo ≤ a → a < first → g a ≡ None
+
   -- no run holds i
   abbrev pub IsBare : (ℕ → Option (Run T)) → ℕ → Type 0
   IsBare g i = (a : ℕ) (r : Run T) → g a ≡ Some r → a ≤ i → r.end ≤ i

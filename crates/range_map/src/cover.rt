@@ -1,6 +1,6 @@
 //! Which run holds an instance.
 ghost use Rattle.std.specs.Prelude.{◌≡◌, ℕ, ◌<◌, ◌≤◌, MatchOption, IsSome, ⊤};
-ghost use Rattle.range_map.specs.Runs.{run_from, IsPlacedFrom, IsLastUpTo, IsCover, IsBare};
+ghost use Rattle.range_map.specs.Runs.{run_from, IsPlacedFrom, IsLastUpTo, IsFirstWithin, IsCover, IsBare};
 ghost use Rattle.range_map.specs.declared.run.Run.{Run};
 
 use crate::run::Run;
@@ -31,6 +31,19 @@ pub fn covering<T>(runs: &BTreeMap<u64, Run<T>>, i: u64) -> Option<(u64, &Run<T>
     if i < run.end { Some((lo, run)) } else { None }
 }
 
+/// The first run that begins in a range.
+pub fn first_within<T>(runs: &BTreeMap<u64, Run<T>>, lo: u64, hi: u64) -> Option<(u64, &Run<T>)>
+    requires { lo ≤ hi }
+    ensures { MatchOption result
+        ((a : ℕ) → lo ≤ a → a < hi → run_from runs.now.entries a ≡ None)
+        (λ found. IsFirstWithin (run_from runs.now.entries) lo hi found.0 found.1.now) }
+{
+    let Some((first, run)) = runs.range(lo..hi).next() else {
+        return None;
+    };
+    Some((*first, run))
+}
+
 /// The first instance of a range at which a run begins.
 pub fn first_begin<T>(runs: &BTreeMap<u64, Run<T>>, lo: u64, hi: u64) -> Option<u64>
     requires { lo ≤ hi }
@@ -41,8 +54,8 @@ pub fn first_begin<T>(runs: &BTreeMap<u64, Run<T>>, lo: u64, hi: u64) -> Option<
     ensures first { MatchOption result ⊤
         (λ first. (a : ℕ) → lo ≤ a → a < first → run_from runs.now.entries a ≡ None) }
 {
-    let Some((first, _)) = runs.range(lo..hi).next() else {
+    let Some((first, _)) = first_within(runs, lo, hi) else {
         return None;
     };
-    Some(*first)
+    Some(first)
 }

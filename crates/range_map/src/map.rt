@@ -1,9 +1,9 @@
 //! The map.
 ghost use Rattle.std.specs.Prelude.{◌≡◌, ℕ, ◌<◌, ◌≤◌, [], List, nat_le, nat_lt, ◌&&◌, if◌then◌else◌, IsNone, IfSome, MatchOption, OnOk, ◌↔◌};
 ghost use Rattle.std.specs.Option.{option_copied};
-ghost use Rattle.range_map.specs.Entries.{value_at, IsIncreasingFrom, entries_from, with_range, IsNextGap, IsNextHeld, IsRunRound};
+ghost use Rattle.range_map.specs.Entries.{value_at, IsIncreasingFrom, entries_from, with_range, IsNextGap, IsNextHeld, IsNextRun, IsRunRound};
 
-use crate::cover::{covering, first_begin};
+use crate::cover::{covering, first_within};
 use crate::edits::{drop_passed, replace_range};
 use crate::run::Run;
 use crate::same::Same;
@@ -112,14 +112,30 @@ impl<T: Same + Drop> RangeMap<T> {
             ((i : ℕ) → from ≤ i → value_at i self.now ≡ None)
             (λ next. IsNextHeld self.now from next) }
     {
+        let Some((next, _, _)) = self.first_run(from) else {
+            return None;
+        };
+        Some(next)
+    }
+
+    /// The first range from `from` on of instances that hold one value: its first instance, the first one past it, and
+    /// the value; `None` where nothing is held from there on.
+    pub fn first_run(&self, from: Inst) -> Option<(Inst, Inst, &T)>
+        ensures { MatchOption result
+            ((i : ℕ) → from ≤ i → value_at i self.now ≡ None)
+            (λ run. IsNextRun self.now from run.0 run.1 run.2.now) }
+    {
         let start = from.max(self.floor);
-        if let Some((_, _)) = covering(&self.runs, start) {
-            return Some(start);
+        if let Some((_, run)) = covering(&self.runs, start) {
+            return Some((start, run.end, &run.value));
         }
         if END <= start {
             return None;
         }
-        first_begin(&self.runs, start, END)
+        let Some((first, run)) = first_within(&self.runs, start, END) else {
+            return None;
+        };
+        Some((first, run.end, &run.value))
     }
 
     /// The longest range round `i` of instances that hold what `i` holds, as its first instance and

@@ -11,7 +11,7 @@ use Rattle.frames.specs.declared.body.Body.TheVariants.{AskCheckpoint}
 use Rattle.frames.specs.declared.sent.Sent.{Sent}
 use Rattle.plain_model.specs.Tuples.{round_sizes, is_tuple_of, instances}
 use Rattle.protocol.specs.Lines.{Line, Begin, AttemptLimit}
-use Rattle.protocol.specs.Node.{Acting, Service, Recovering, Attempt, Choice, with_stage, prints, sends_all}
+use Rattle.protocol.specs.Node.{StepSoFar, Service, Recovering, Attempt, Choice, with_stage, prints, sends_all}
 use Rattle.protocol.specs.Merging.{merges}
 use Rattle.protocol.specs.Recovery.{epoch_of, own_tuple, others_of, best_of, chooses_best, chooses_if_quorum, asks_checkpoint, begins_next, begins}
 use Rattle.faithful.specs.Scanners.{unchosen, before_attempt, told, begun, Reaches}
@@ -25,12 +25,12 @@ use Rattle.recovery_lines.proofs.Right.{right_lines}
 use Rattle.recovery_lines.proofs.Printing.{tells_own, differ, said_sends, all_flat, prints_done, sends_done, stage_done}
 use Rattle.recovery_lines.proofs.Choosing.{best_is, best_reaches, not_begun, choosing}
 
-module _ (c : Config) (fit : IsFit c) (before : List Line) (merged : (a : Acting) (lines : List Line) → ActLines c before lines a → AfterLines c before (merges c a)) where
+module _ (c : Config) (fit : IsFit c) (before : List Line) (merged : (a : StepSoFar) (lines : List Line) → ActLines c before lines a → AfterLines c before (merges c a)) where
   -- as soon as a quorum has answered the best answer is chosen
-  pub quorum_chooses : (service : Service) (attempt : Attempt) (a : Acting) (lines : List Line) → DoneLines c before lines a
-      → OwnLines c lines a.view.id (epoch_of a.view) a.view.checks.newest service.partition service.attempts
-      → Has (told a.view.id.0 lines) (newest_of service.partition a.view.checks.newest)
-      → AttemptLines c lines a.view.id (epoch_of a.view) a.view.checks.newest service.partition attempt.number attempt.answers
+  pub quorum_chooses : (service : Service) (attempt : Attempt) (a : StepSoFar) (lines : List Line) → DoneLines c before lines a
+      → OwnLines c lines a.view.id (epoch_of a.view) a.view.checkpoints.newest service.partition service.attempts
+      → Has (told a.view.id.0 lines) (newest_of service.partition a.view.checkpoints.newest)
+      → AttemptLines c lines a.view.id (epoch_of a.view) a.view.checkpoints.newest service.partition attempt.number attempt.answers
       → unchosen a.view.id.0 lines ≡ Some (Some (epoch_of a.view, attempt.number))
       → attempt.choice ≡ None
       → AfterLines c before (chooses_if_quorum c service attempt a)
@@ -46,7 +46,7 @@ module _ (c : Config) (fit : IsFit c) (before : List Line) (merged : (a : Acting
           let nothing : length attempt.answers ≡ 0 = ap (λ (ys : List (NodeId × List (RingId × ℕ))). length ys) e in
           absurd (omega arith)
       by_answers (first ∷ rest) e enough =
-          let Good : NodeId × List (RingId × ℕ) → Type 0 = AnswerLines c lines a.view.id (epoch_of a.view) a.view.checks.newest service.partition attempt.number in
+          let Good : NodeId × List (RingId × ℕ) → Type 0 = AnswerLines c lines a.view.id (epoch_of a.view) a.view.checkpoints.newest service.partition attempt.number in
           let all : AllByRecursion Good (first ∷ rest) = subst (λ (xs : List (NodeId × List (RingId × ℕ))). AllByRecursion Good xs) e at.answered in
           let best : NodeId × List (RingId × ℕ) = best_of a.view.id first rest in
           let good : Good best = best_is (round_sizes c) service.partition a.view.id Good first rest all.0 all.1 in
@@ -73,8 +73,8 @@ module _ (c : Config) (fit : IsFit c) (before : List Line) (merged : (a : Acting
           }
 
   -- the next attempt
-  pub next_begins : (service : Service) (a : Acting) (lines : List Line) → DoneLines c before lines a
-      → OwnLines c lines a.view.id (epoch_of a.view) a.view.checks.newest service.partition service.attempts
+  pub next_begins : (service : Service) (a : StepSoFar) (lines : List Line) → DoneLines c before lines a
+      → OwnLines c lines a.view.id (epoch_of a.view) a.view.checkpoints.newest service.partition service.attempts
       → AfterLines c before (begins_next c service a)
   next_begins service a lines d o =
       quorum_chooses (record service { attempts = number }) attempt (sends_all asks (prints (l ∷ []) a)) (l ∷ lines)
@@ -136,7 +136,7 @@ module _ (c : Config) (fit : IsFit c) (before : List Line) (merged : (a : Acting
       told_now : (other : List ℕ) → Has (told a.view.id.0 (l ∷ lines)) other → (other ≡ instances own) ⊎ Has (told a.view.id.0 lines) other
       told_now other h = subst (λ (b : Bool). Has (if b then instances own ∷ told a.view.id.0 lines else told a.view.id.0 lines) other) (same_number a.view.id.0) h
 
-      own_more : OwnLines c (l ∷ lines) a.view.id (epoch_of a.view) a.view.checks.newest service.partition number
+      own_more : OwnLines c (l ∷ lines) a.view.id (epoch_of a.view) a.view.checkpoints.newest service.partition number
       own_more = record {
         replica = o.replica;
         kept = record {
@@ -164,7 +164,7 @@ module _ (c : Config) (fit : IsFit c) (before : List Line) (merged : (a : Acting
       said : IsAnswer (l ∷ lines) a.view.id.0 (epoch_of a.view) number a.view.id.0 (instances own)
       said = record { before = lines; begins = first; tells = rw (same_number a.view.id.0) (inl refl); reaches = o.kept.reaches }
 
-      ties : AttemptLines c (l ∷ lines) a.view.id (epoch_of a.view) a.view.checks.newest service.partition number ((a.view.id, own) ∷ [])
+      ties : AttemptLines c (l ∷ lines) a.view.id (epoch_of a.view) a.view.checkpoints.newest service.partition number ((a.view.id, own) ∷ [])
       ties = record {
         current = rw (same_number a.view.id.0) refl;
         begun = rw (same_number a.view.id.0) refl;
@@ -189,8 +189,8 @@ module _ (c : Config) (fit : IsFit c) (before : List Line) (merged : (a : Acting
       asked = all_flat (IsSaid c (l ∷ lines)) (asks_checkpoint a.view number)
           (λ node. said_sends c (l ∷ lines) a.view.id node (AskCheckpoint (epoch_of a.view) number) (lines, first)) (others_of a.view.id service.partition)
 
-  pub beginning : (service : Service) (a : Acting) (lines : List Line) → ActLines c before lines a
-      → OwnLines c lines a.view.id (epoch_of a.view) a.view.checks.newest service.partition service.attempts
+  pub beginning : (service : Service) (a : StepSoFar) (lines : List Line) → ActLines c before lines a
+      → OwnLines c lines a.view.id (epoch_of a.view) a.view.checkpoints.newest service.partition service.attempts
       → AfterLines c before (begins c service a)
   unfolding begins
   beginning service a lines ties o = go (nat_lt service.attempts (2 ^ 32 - 1))
@@ -201,6 +201,6 @@ module _ (c : Config) (fit : IsFit c) (before : List Line) (merged : (a : Acting
         lines = AttemptLimit a.view.id ∷ lines;
         ties = record {
           done = prints_done c before lines a ties.done (AttemptLimit a.view.id) (λ other ne. refl) tt (λ r p k e replica fits h. absurd h);
-          replica = ReplicaLines-quiet c (AttemptLimit a.view.id) lines a.view.id (epoch_of a.view) a.view.checks.newest a.view.service refl ties.replica;
+          replica = ReplicaLines-quiet c (AttemptLimit a.view.id) lines a.view.id (epoch_of a.view) a.view.checkpoints.newest a.view.service refl ties.replica;
         };
       }

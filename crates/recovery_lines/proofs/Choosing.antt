@@ -9,12 +9,12 @@ use Rattle.mrp_config.specs.Config.{Config, has_node}
 use Rattle.mrp_config.specs.declared.tables.PartitionTable.{PartitionTable}
 use Rattle.quorums.specs.Groups.{Has}
 use Rattle.frames.specs.declared.body.Body.TheVariants.{AskPart}
-use Rattle.checkpoint.specs.Checks.{Checkpoint, is_same_tuple, is_after}
+use Rattle.checkpoint.specs.Checkpoints.{Checkpoint, is_same_tuple, is_after}
 use Rattle.plain_model.specs.Replicas.{Replica}
 use Rattle.plain_model.specs.StateBytes.{state_of}
 use Rattle.plain_model.specs.Tuples.{round_sizes, is_tuple_of, instances}
 use Rattle.protocol.specs.Lines.{Line, Begin, Chose, Restore}
-use Rattle.protocol.specs.Node.{Acting, Service, Stage, Recovering, Ready, Attempt, Choice, with_stage, prints, sends_all}
+use Rattle.protocol.specs.Node.{StepSoFar, Service, Stage, Recovering, Ready, Attempt, Choice, with_stage, prints, sends_all}
 use Rattle.protocol.specs.Merging.{merges}
 use Rattle.protocol.specs.Recovery.{epoch_of, tuple_of_newest, lowers, restores, restores_read, installs_own, is_other, is_better, best_of, asks_part, chooses}
 use Rattle.faithful.specs.Scanners.{Mark, Begun, Restored, touches, life, chosen, before_attempt, lines_before_this, attempts_told, told, begun, or_else, Reaches, position}
@@ -139,12 +139,12 @@ mark_differs o a b = cc
 
 -- ---- words
 
-module _ (c : Config) (fit : IsFit c) (before : List Line) (merged : (a : Acting) (lines : List Line) → ActLines c before lines a → AfterLines c before (merges c a)) where
+module _ (c : Config) (fit : IsFit c) (before : List Line) (merged : (a : StepSoFar) (lines : List Line) → ActLines c before lines a → AfterLines c before (merges c a)) where
   -- a replica is restored at a tuple
-  pub restored : (service : Service) (tuple : List (RingId × ℕ)) (replica : Replica) (a : Acting) (lines : List Line) → DoneLines c before lines a
-      → OwnLines c lines a.view.id (epoch_of a.view) a.view.checks.newest service.partition service.attempts
-      → Has (told a.view.id.0 lines) (newest_of service.partition a.view.checks.newest) → (life a.view.id.0 lines ≡ Some Restored → ⊥) → chosen a.view.id.0 lines ≡ Some (Some (instances tuple))
-      → is_tuple_of (round_sizes c) service.partition.rings tuple ≡ true → AllKnown lines tuple → Reaches (instances tuple) (newest_of service.partition a.view.checks.newest)
+  pub restored : (service : Service) (tuple : List (RingId × ℕ)) (replica : Replica) (a : StepSoFar) (lines : List Line) → DoneLines c before lines a
+      → OwnLines c lines a.view.id (epoch_of a.view) a.view.checkpoints.newest service.partition service.attempts
+      → Has (told a.view.id.0 lines) (newest_of service.partition a.view.checkpoints.newest) → (life a.view.id.0 lines ≡ Some Restored → ⊥) → chosen a.view.id.0 lines ≡ Some (Some (instances tuple))
+      → is_tuple_of (round_sizes c) service.partition.rings tuple ≡ true → AllKnown lines tuple → Reaches (instances tuple) (newest_of service.partition a.view.checkpoints.newest)
       → AfterLines c before (restores c service tuple replica a)
   unfolding restores
   restored service tuple replica a lines d o t recovering choice valid known reaches =
@@ -165,8 +165,8 @@ module _ (c : Config) (fit : IsFit c) (before : List Line) (merged : (a : Acting
       merged (with_stage service stage (lowers tuple (prints (l ∷ []) a))) (l ∷ lines) (record {
         done = stage_done c before (l ∷ lines) (lowers tuple (prints (l ∷ []) a)) low service stage;
         replica = record {
-          own = OwnLines-same c l lines x (epoch_of a.view) a.view.checks.newest service.partition service.attempts (restore_own x lines (instances tuple)) o;
-          told = told_same c l lines x (epoch_of a.view) a.view.checks.newest service.partition (restore_own x lines (instances tuple)) t;
+          own = OwnLines-same c l lines x (epoch_of a.view) a.view.checkpoints.newest service.partition service.attempts (restore_own x lines (instances tuple)) o;
+          told = told_same c l lines x (epoch_of a.view) a.view.checkpoints.newest service.partition (restore_own x lines (instances tuple)) t;
           stage = record {
             ready = rw (same_number x.0) refl;
             valid = valid;
@@ -180,20 +180,20 @@ module _ (c : Config) (fit : IsFit c) (before : List Line) (merged : (a : Acting
       })
 
   -- at the own newest tuple
-  restored_own : (service : Service) (tuple : List (RingId × ℕ)) (replica : Replica) (a : Acting) (lines : List Line) → DoneLines c before lines a
-      → OwnLines c lines a.view.id (epoch_of a.view) a.view.checks.newest service.partition service.attempts
-      → Has (told a.view.id.0 lines) (newest_of service.partition a.view.checks.newest) → (life a.view.id.0 lines ≡ Some Restored → ⊥)
-      → chosen a.view.id.0 lines ≡ Some (Some (newest_of service.partition a.view.checks.newest))
-      → tuple_of_newest service.partition a.view.checks.newest ≡ tuple → AfterLines c before (restores c service tuple replica a)
+  restored_own : (service : Service) (tuple : List (RingId × ℕ)) (replica : Replica) (a : StepSoFar) (lines : List Line) → DoneLines c before lines a
+      → OwnLines c lines a.view.id (epoch_of a.view) a.view.checkpoints.newest service.partition service.attempts
+      → Has (told a.view.id.0 lines) (newest_of service.partition a.view.checkpoints.newest) → (life a.view.id.0 lines ≡ Some Restored → ⊥)
+      → chosen a.view.id.0 lines ≡ Some (Some (newest_of service.partition a.view.checkpoints.newest))
+      → tuple_of_newest service.partition a.view.checkpoints.newest ≡ tuple → AfterLines c before (restores c service tuple replica a)
   restored_own service tuple replica a lines d o t recovering choice same =
       subst (λ (k : List (RingId × ℕ)). AfterLines c before (restores c service k replica a)) same
-      (restored service (tuple_of_newest service.partition a.view.checks.newest) replica a lines d o t recovering choice o.kept.valid o.kept.known (Reaches-refl _))
+      (restored service (tuple_of_newest service.partition a.view.checkpoints.newest) replica a lines d o t recovering choice o.kept.valid o.kept.known (Reaches-refl _))
 
   -- The own checkpoint is installed; where its bytes were no state, the attempt would go on.
-  installed : (service : Service) (newest : Option Checkpoint) (a : Acting) (lines : List Line) → a.view.checks.newest ≡ newest → ActLines c before lines a
-      → OwnLines c lines a.view.id (epoch_of a.view) a.view.checks.newest service.partition service.attempts
-      → Has (told a.view.id.0 lines) (newest_of service.partition a.view.checks.newest) → (life a.view.id.0 lines ≡ Some Restored → ⊥)
-      → chosen a.view.id.0 lines ≡ Some (Some (newest_of service.partition a.view.checks.newest)) → AfterLines c before (installs_own c service newest a)
+  installed : (service : Service) (newest : Option Checkpoint) (a : StepSoFar) (lines : List Line) → a.view.checkpoints.newest ≡ newest → ActLines c before lines a
+      → OwnLines c lines a.view.id (epoch_of a.view) a.view.checkpoints.newest service.partition service.attempts
+      → Has (told a.view.id.0 lines) (newest_of service.partition a.view.checkpoints.newest) → (life a.view.id.0 lines ≡ Some Restored → ⊥)
+      → chosen a.view.id.0 lines ≡ Some (Some (newest_of service.partition a.view.checkpoints.newest)) → AfterLines c before (installs_own c service newest a)
   installed service None a lines e ties o t recovering choice = restored_own service _ _ a lines ties.done o t recovering choice (ap (tuple_of_newest service.partition) e)
   installed service (Some saved) a lines e ties o t recovering choice = by_state (state_of service.partition saved.state)
     where
@@ -202,15 +202,15 @@ module _ (c : Config) (fit : IsFit c) (before : List Line) (merged : (a : Acting
       by_state (Some replica) = restored_own service saved.tuple replica a lines ties.done o t recovering choice (ap (tuple_of_newest service.partition) e)
 
   -- a choice is made or changed
-  pub choosing : (service : Service) (attempt : Attempt) (best : NodeId × List (RingId × ℕ)) (a : Acting) (lines : List Line) → DoneLines c before lines a
-      → OwnLines c lines a.view.id (epoch_of a.view) a.view.checks.newest service.partition service.attempts
-      → Has (told a.view.id.0 lines) (newest_of service.partition a.view.checks.newest)
-      → AttemptLines c lines a.view.id (epoch_of a.view) a.view.checks.newest service.partition attempt.number attempt.answers
+  pub choosing : (service : Service) (attempt : Attempt) (best : NodeId × List (RingId × ℕ)) (a : StepSoFar) (lines : List Line) → DoneLines c before lines a
+      → OwnLines c lines a.view.id (epoch_of a.view) a.view.checkpoints.newest service.partition service.attempts
+      → Has (told a.view.id.0 lines) (newest_of service.partition a.view.checkpoints.newest)
+      → AttemptLines c lines a.view.id (epoch_of a.view) a.view.checkpoints.newest service.partition attempt.number attempt.answers
       → service.partition.recovery_quorum ≤ length attempt.answers
       → has_node service.partition.replicas best.0.0 ≡ true
       → is_tuple_of (round_sizes c) service.partition.rings best.1 ≡ true
       → Has (told best.0.0 lines) (instances best.1)
-      → (best.0.0 ≡ a.view.id.0 → best.1 ≡ tuple_of_newest service.partition a.view.checks.newest)
+      → (best.0.0 ≡ a.view.id.0 → best.1 ≡ tuple_of_newest service.partition a.view.checkpoints.newest)
       → AllByRecursion (λ (answer : NodeId × List (RingId × ℕ)). Reaches (instances best.1) (instances answer.1)) attempt.answers
       → AfterLines c before (chooses c service attempt best a)
   unfolding chooses
@@ -229,7 +229,7 @@ module _ (c : Config) (fit : IsFit c) (before : List Line) (merged : (a : Acting
       stage : Stage
       stage = Recovering (record attempt { choice = Some choice })
 
-      b : Acting
+      b : StepSoFar
       b = prints (l ∷ []) a
 
       rule : Chooses c lines a.view.id (epoch_of a.view) attempt.number (instances best.1) best.0
@@ -240,14 +240,14 @@ module _ (c : Config) (fit : IsFit c) (before : List Line) (merged : (a : Acting
         current = at.current;
         earlier = at.earlier;
         begins = at.begins;
-        trims = trims_reached c fit lines a.view.id (epoch_of a.view) a.view.checks.newest service.partition (partition_there c.partitions a.view.id service.partition o.replica).there
+        trims = trims_reached c fit lines a.view.id (epoch_of a.view) a.view.checkpoints.newest service.partition (partition_there c.partitions a.view.id service.partition o.replica).there
             attempt.number attempt.answers at enough (instances best.1) reaches;
         other = replica;
         told = tells;
       }
 
       covered : ReachesCovered c at.earlier service.partition.rings (instances best.1)
-      covered = covered_reached c fit lines a.view.id (epoch_of a.view) a.view.checks.newest service.partition (partition_there c.partitions a.view.id service.partition o.replica).there
+      covered = covered_reached c fit lines a.view.id (epoch_of a.view) a.view.checkpoints.newest service.partition (partition_there c.partitions a.view.id service.partition o.replica).there
           attempt.number attempt.answers at enough (instances best.1) reaches
 
       same_num : (i j : ℕ) → (i == j) ≡ true → i ≡ j
@@ -259,16 +259,16 @@ module _ (c : Config) (fit : IsFit c) (before : List Line) (merged : (a : Acting
       done : DoneLines c before (l ∷ lines) (prints (l ∷ []) a)
       done = prints_done c before lines a d l (λ other ne. differ a.view.id.0 other ne) (rule, covered) (λ r p k e replica fits h. absurd h)
 
-      own_more : OwnLines c (l ∷ lines) a.view.id (epoch_of a.view) a.view.checks.newest service.partition service.attempts
-      own_more = OwnLines-same c l lines a.view.id (epoch_of a.view) a.view.checks.newest service.partition service.attempts
+      own_more : OwnLines c (l ∷ lines) a.view.id (epoch_of a.view) a.view.checkpoints.newest service.partition service.attempts
+      own_more = OwnLines-same c l lines a.view.id (epoch_of a.view) a.view.checkpoints.newest service.partition service.attempts
           (chose_own a.view.id lines (epoch_of a.view) attempt.number (instances best.1) best.0) o
 
-      told_more : Has (told a.view.id.0 (l ∷ lines)) (newest_of service.partition a.view.checks.newest)
-      told_more = told_same c l lines a.view.id (epoch_of a.view) a.view.checks.newest service.partition
+      told_more : Has (told a.view.id.0 (l ∷ lines)) (newest_of service.partition a.view.checkpoints.newest)
+      told_more = told_same c l lines a.view.id (epoch_of a.view) a.view.checkpoints.newest service.partition
           (chose_own a.view.id lines (epoch_of a.view) attempt.number (instances best.1) best.0) t
 
-      attempt_more : AttemptLines c (l ∷ lines) a.view.id (epoch_of a.view) a.view.checks.newest service.partition attempt.number attempt.answers
-      attempt_more = AttemptLines-same c l lines a.view.id (epoch_of a.view) a.view.checks.newest service.partition attempt.number attempt.answers
+      attempt_more : AttemptLines c (l ∷ lines) a.view.id (epoch_of a.view) a.view.checkpoints.newest service.partition attempt.number attempt.answers
+      attempt_more = AttemptLines-same c l lines a.view.id (epoch_of a.view) a.view.checkpoints.newest service.partition attempt.number attempt.answers
           (chose_attempt a.view.id lines (epoch_of a.view) attempt.number (instances best.1) best.0) at
 
       chosen_now : chosen a.view.id.0 (l ∷ lines) ≡ Some (Some (instances best.1))
@@ -288,10 +288,10 @@ module _ (c : Config) (fit : IsFit c) (before : List Line) (merged : (a : Acting
       gathering = record { done = stage_done c before (l ∷ lines) (prints (l ∷ []) a) done service stage; replica = record { own = own_more; told = told_more; stage = (attempt_more, choice_now) } }
 
       by_node : (s : Bool) → (best.0.0 == a.view.id.0) ≡ s
-          → AfterLines c before (if s then installs_own c service a.view.checks.newest (with_stage service stage (prints (l ∷ []) a))
+          → AfterLines c before (if s then installs_own c service a.view.checkpoints.newest (with_stage service stage (prints (l ∷ []) a))
           else sends_all (asks_part a.view attempt choice) (with_stage service stage (prints (l ∷ []) a)))
       by_node true e =
-          installed service a.view.checks.newest (with_stage service stage (prints (l ∷ []) a)) (l ∷ lines) refl gathering
+          installed service a.view.checkpoints.newest (with_stage service stage (prints (l ∷ []) a)) (l ∷ lines) refl gathering
           own_more told_more (mark_differs (life a.view.id.0 (l ∷ lines)) attempt_more.begun)
           (chosen_now ∙ ap (λ (k : List (RingId × ℕ)). Some (Some (instances k))) (own (same_num best.0.0 a.view.id.0 e)))
       by_node false e = record {

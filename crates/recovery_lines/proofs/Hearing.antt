@@ -14,7 +14,7 @@ use Rattle.frames.specs.declared.body.Body.{Body}
 use Rattle.frames.specs.declared.body.Body.TheVariants.{HaveCheckpoint, AskPart, Part as PartFrame, Gone as GoneFrame, Safe}
 use Rattle.frames.specs.declared.sent.Sent.{Sent}
 use Rattle.frames.specs.Grammar.{part_of as part_size}
-use Rattle.checkpoint.specs.Checks.{Checkpoint, PartAnswer, Part as PartOf, Gone, Unknown, part_of, part_in, part_at, is_same_tuple, is_after}
+use Rattle.checkpoint.specs.Checkpoints.{Checkpoint, PartAnswer, Part as PartOf, Gone, Unknown, part_of, part_in, part_at, is_same_tuple, is_after}
 use Rattle.plain_model.specs.Replicas.{Replica}
 use Rattle.plain_model.specs.StateBytes.{state_of}
 use Rattle.plain_model.specs.Tuples.{round_sizes, is_tuple_of, has_rings, entry_at, instances}
@@ -22,7 +22,7 @@ use Rattle.plain_model.proofs.TupleOrder.{split_and}
 use Rattle.protocol.specs.Lines.{Line, Begin}
 use Rattle.protocol.specs.Rings.{sends_to, subscribers_of}
 use Rattle.protocol.specs.Trimming.{has_answered}
-use Rattle.protocol.specs.Node.{Acting, Service, Recovering, Attempt, Choice, with_stage, sends_all}
+use Rattle.protocol.specs.Node.{StepSoFar, Service, Recovering, Attempt, Choice, with_stage, sends_all}
 use Rattle.protocol.specs.Recovery.{epoch_of, own_tuple, tuple_of_newest, is_of, takes_answer, answered_by, is_of_choice, restores_or_begins, part_for, takes_part, gone_for, takes_gone, tells_checkpoint, answer_part, tells_part, safe_in, safe_of, asks_part}
 use Rattle.protocol.specs.Step.{tells_safe}
 use Rattle.faithful.specs.Scanners.{Mark, Begun, Restored, touches, life, before_attempt, lines_before_this, or_else, told, tuples_told, entry_of, Reaches, some_reaches}
@@ -124,17 +124,17 @@ own_safe c lines x ring p (Some newest) tells valid =
       reaches = subst (λ (n : ℕ). min (unwrap_or (entry_at ring newest.tuple) 0) (END - 1) ≤ n) (entry_same p.rings ring newest.tuple (rings_fit (round_sizes c) p.rings newest.tuple valid)) least;
     }))
 
-module _ (c : Config) (fit : IsFit c) (before : List Line) (a : Acting) (lines : List Line) (ties : ActLines c before lines a) where
+module _ (c : Config) (fit : IsFit c) (before : List Line) (a : StepSoFar) (lines : List Line) (ties : ActLines c before lines a) where
   pub as_it_was : AfterLines c before a
   as_it_was = record { lines = lines; ties = ties }
 
   pub sent_lines : (frames : List Sent) → AllByRecursion (IsSaid c lines) frames → AfterLines c before (sends_all frames a)
   sent_lines frames said = record { lines = lines; ties = record { done = sends_done c before lines a ties.done frames said; replica = ties.replica } }
 
-  module _ (service : Service) (own : OwnLines c lines a.view.id (epoch_of a.view) a.view.checks.newest service.partition service.attempts)
-      (mine : Has (told a.view.id.0 lines) (newest_of service.partition a.view.checks.newest)) where
+  module _ (service : Service) (own : OwnLines c lines a.view.id (epoch_of a.view) a.view.checkpoints.newest service.partition service.attempts)
+      (mine : Has (told a.view.id.0 lines) (newest_of service.partition a.view.checkpoints.newest)) where
     -- the own newest tuple is told
-    own_tells : TellsTuple c lines a.view.id (tuple_of_newest service.partition a.view.checks.newest)
+    own_tells : TellsTuple c lines a.view.id (tuple_of_newest service.partition a.view.checkpoints.newest)
     own_tells = record { partition = service.partition; replica = own.replica; valid = own.kept.valid; told = mine }
 
     -- ---- what is asked of this node
@@ -148,8 +148,8 @@ module _ (c : Config) (fit : IsFit c) (before : List Line) (a : Acting) (lines :
     pub part_told : (from : NodeId) (epoch number : ℕ) (tuple : List (RingId × ℕ)) (offset : ℕ) → TellsTuple c lines a.view.id tuple → AfterLines c before (tells_part c service from epoch number tuple offset a)
     part_told from epoch number tuple offset asked =
         by_test (AfterLines c before) (is_tuple_of (round_sizes c) service.partition.rings tuple) _ a
-        (λ e. sent_lines (flat_map (sends_to a.view.id from) (answer_part epoch number tuple offset (part_of a.view.checks tuple offset)))
-        (by_newest a.view.checks.newest refl)) as_it_was
+        (λ e. sent_lines (flat_map (sends_to a.view.id from) (answer_part epoch number tuple offset (part_of a.view.checkpoints tuple offset)))
+        (by_newest a.view.checkpoints.newest refl)) as_it_was
       where
         Said : PartAnswer → Type 0
         Said answer = AllByRecursion (IsSaid c lines) (flat_map (sends_to a.view.id from) (answer_part epoch number tuple offset answer))
@@ -165,7 +165,7 @@ module _ (c : Config) (fit : IsFit c) (before : List Line) (a : Acting) (lines :
             by_test Said (nat_lt offset total) (PartOf total (take (part_size (offset, total)) (drop offset state))) Unknown
             (λ e. by_body (PartFrame epoch number tuple offset total (take (part_size (offset, total)) (drop offset state))) asked) tt
 
-        by_newest : (o : Option Checkpoint) → a.view.checks.newest ≡ o → Said (part_in o tuple offset)
+        by_newest : (o : Option Checkpoint) → a.view.checkpoints.newest ≡ o → Said (part_in o tuple offset)
         by_newest None e = tt
         by_newest (Some newest) e = by_test Said (is_after tuple newest.tuple) (Gone newest.tuple) (if is_same_tuple tuple newest.tuple then part_at (length newest.state) offset newest.state else Unknown)
             (λ t. by_other (GoneFrame epoch number tuple newest.tuple) (λ ne. (ne, (asked, subst (λ (o : Option Checkpoint). TellsTuple c lines a.view.id (tuple_of_newest service.partition o)) e own_tells))))
@@ -175,22 +175,22 @@ module _ (c : Config) (fit : IsFit c) (before : List Line) (a : Acting) (lines :
     safe_told from ring round there =
         subst (λ (s : Option Service). AfterLines c before (tells_safe from ring round (safe_of a.view ring s) a)) (sym there)
         (by_test (λ (o : Option ℕ). AfterLines c before (tells_safe from ring round o a)) (has_ring service.partition.rings ring.0) _ None
-        (λ e. sent_lines (sends_to a.view.id from (Safe ring round (safe_in ring a.view.checks.newest)))
-        (said_sends c lines a.view.id from (Safe ring round (safe_in ring a.view.checks.newest)) (safe e))) as_it_was)
+        (λ e. sent_lines (sends_to a.view.id from (Safe ring round (safe_in ring a.view.checkpoints.newest)))
+        (said_sends c lines a.view.id from (Safe ring round (safe_in ring a.view.checkpoints.newest)) (safe e))) as_it_was)
       where
-        safe : has_ring service.partition.rings ring.0 ≡ true → TellsSafe c lines ring (a.view.id, safe_in ring a.view.checks.newest)
+        safe : has_ring service.partition.rings ring.0 ≡ true → TellsSafe c lines ring (a.view.id, safe_in ring a.view.checkpoints.newest)
         safe e =
             let p = partition_there c.partitions a.view.id service.partition own.replica in
             record {
               partition = service.partition;
               subscribes = subscribed c.partitions ring service.partition p.there e;
               replica = p.replica;
-              told = own_safe c lines a.view.id.0 ring service.partition a.view.checks.newest mine own.kept.valid;
+              told = own_safe c lines a.view.id.0 ring service.partition a.view.checkpoints.newest mine own.kept.valid;
             }
 
     -- ---- an attempt
 
-    module _ (attempt : Attempt) (stage : StageLines c lines a.view.id (epoch_of a.view) a.view.checks.newest service.partition (Recovering attempt)) where
+    module _ (attempt : Attempt) (stage : StageLines c lines a.view.id (epoch_of a.view) a.view.checkpoints.newest service.partition (Recovering attempt)) where
       not_restored : life a.view.id.0 lines ≡ Some Restored → ⊥
       not_restored e = differs (life a.view.id.0 lines) stage.0.begun e
         where
@@ -220,7 +220,7 @@ module _ (c : Config) (fit : IsFit c) (before : List Line) (a : Acting) (lines :
                 faithful = stage.0.faithful;
                 different = different_more attempt.answers from tuple stage.0.different new;
                 heard = has_left attempt.answers ((from, tuple) ∷ []) _ stage.0.heard;
-                answered = appended (AnswerLines c lines a.view.id (epoch_of a.view) a.view.checks.newest service.partition attempt.number) attempt.answers ((from, tuple) ∷ []) stage.0.answered (
+                answered = appended (AnswerLines c lines a.view.id (epoch_of a.view) a.view.checkpoints.newest service.partition attempt.number) attempt.answers ((from, tuple) ∷ []) stage.0.answered (
                   record {
                     replica = replica;
                     valid = valid;
@@ -315,5 +315,5 @@ module _ (c : Config) (fit : IsFit c) (before : List Line) (a : Acting) (lines :
                       let there = partition_there c.partitions a.view.id service.partition own.replica in
                       ties.done.known choice.from service.partition choice.tuple (fit.alone service.partition choice.from there.there ch.replica) ch.valid ch.told
 
-                  reaches : Reaches (instances choice.tuple) (newest_of service.partition a.view.checks.newest)
+                  reaches : Reaches (instances choice.tuple) (newest_of service.partition a.view.checkpoints.newest)
                   reaches = all_has (λ (answer : NodeId × List (RingId × ℕ)). Reaches (instances choice.tuple) (instances answer.1)) attempt.answers _ ch.reaches stage.0.heard

@@ -12,15 +12,15 @@ use Rattle.mrp_types.specs.declared.id.TheConstants.{END}
 use Rattle.mrp_config.specs.Config.{Config}
 use Rattle.frames.specs.declared.sent.Sent.{Sent}
 use Rattle.quorums.specs.Groups.{Has}
-use Rattle.checkpoint.specs.Checks.{Checkpoint}
+use Rattle.checkpoint.specs.Checkpoints.{Checkpoint}
 use Rattle.plain_model.specs.Replicas.{AppliedAll, applies, entries_of_batch}
 use Rattle.plain_model.specs.Tuples.{round_sizes, next_place, past, is_tuple_of, instances, moved_past}
 use Rattle.plain_model.proofs.TupleAt.{by_number}
 use Rattle.protocol.specs.Lines.{Line, Deliver}
 use Rattle.protocol.specs.Learner.{value_in}
 use Rattle.protocol.specs.Recovery.{epoch_of}
-use Rattle.protocol.specs.Node.{Acting, RingPart, Service, Stage, Recovering, Ready, Standing, part_in, with_stage, prints}
-use Rattle.protocol.specs.Merging.{value_of_part, value_at_place, place_of, reply_line, reply_frame, skipped, passed_batch, delivers_applied, takes_place, goes_on, merges_stage, merges_service, merges_up_to, merges}
+use Rattle.protocol.specs.Node.{StepSoFar, RingPart, Service, Stage, Recovering, Ready, Standing, part_in, with_stage, prints}
+use Rattle.protocol.specs.Merging.{value_of_part, value_at_place, place_of, reply_line, reply_frame, skipped, passed_batch, delivers_applied, takes_place, merges_place, merges_stage, merges_service, merges_up_to, merges}
 use Rattle.faithful.specs.Scanners.{past as printed_past, touches, told, Reaches, position, book}
 use Rattle.faithful.specs.Rules.{BySkips, Delivers}
 use Rattle.recovery_lines.specs.Ties.{IsRightLine, AreRight, KnownLines, IsFit, IsSaid, PartLines, OwnLines, ReadyLines, StageLines, ServiceLines, ReplicaLines, DoneLines, ActLines, AfterLines, newest_of, IsOf}
@@ -65,7 +65,7 @@ module _ (c : Config) (before lines : List Line) (new : List Line) (still : AllB
   pub still_said : (frames : List Sent) → AllByRecursion (IsSaid c lines) frames → AllByRecursion (IsSaid c (printed_past lines new)) frames
   still_said frames all = many c (λ (ls : List Line). AllByRecursion (IsSaid c ls) frames) (λ l ls s p. mapped (IsSaid c ls) (IsSaid c (l ∷ ls)) (IsSaid-more c l ls) frames p) new lines still all
 
-  pub prints_still : (a : Acting) → DoneLines c before lines a → DoneLines c before (printed_past lines new) (prints new a)
+  pub prints_still : (a : StepSoFar) → DoneLines c before lines a → DoneLines c before (printed_past lines new) (prints new a)
   prints_still a d = record {
     printed = past_more before a.lines new ∙ ap (λ (ls : List Line). printed_past ls new) d.printed;
     own = appended (IsOf a.view.id) a.lines new d.own (mapped (IsStill c) (IsOf a.view.id) (λ l s other ne. s.0 other) new still);
@@ -83,10 +83,10 @@ module _ (c : Config) (before lines : List Line) (new : List Line) (still : AllB
 
 module _ (c : Config) (fit : IsFit c) (before : List Line) where
   -- a skip
-  skips : (service : Service) (standing : Standing) (a : Acting) (lines : List Line) → DoneLines c before lines a
-      → OwnLines c lines a.view.id (epoch_of a.view) a.view.checks.newest service.partition service.attempts
-      → Has (told a.view.id.0 lines) (newest_of service.partition a.view.checks.newest)
-      → ReadyLines c lines a.view.id a.view.checks.newest service.partition standing.tuple standing.delivered
+  skips : (service : Service) (standing : Standing) (a : StepSoFar) (lines : List Line) → DoneLines c before lines a
+      → OwnLines c lines a.view.id (epoch_of a.view) a.view.checkpoints.newest service.partition service.attempts
+      → Has (told a.view.id.0 lines) (newest_of service.partition a.view.checkpoints.newest)
+      → ReadyLines c lines a.view.id a.view.checkpoints.newest service.partition standing.tuple standing.delivered
       → book lines (place_of c standing).0 (place_of c standing).1 ≡ Some Skip
       → ActLines c before lines (with_stage service (Ready (skipped c standing)) a)
   skips service standing a lines d o t r skip =
@@ -110,10 +110,10 @@ module _ (c : Config) (fit : IsFit c) (before : List Line) where
       }
 
   -- a batch
-  batch_taken : (service : Service) (standing : Standing) (batch : List ℕ) (applied : AppliedAll) (a : Acting) (lines : List Line) → DoneLines c before lines a
-      → OwnLines c lines a.view.id (epoch_of a.view) a.view.checks.newest service.partition service.attempts
-      → Has (told a.view.id.0 lines) (newest_of service.partition a.view.checks.newest)
-      → ReadyLines c lines a.view.id a.view.checks.newest service.partition standing.tuple standing.delivered
+  batch_taken : (service : Service) (standing : Standing) (batch : List ℕ) (applied : AppliedAll) (a : StepSoFar) (lines : List Line) → DoneLines c before lines a
+      → OwnLines c lines a.view.id (epoch_of a.view) a.view.checkpoints.newest service.partition service.attempts
+      → Has (told a.view.id.0 lines) (newest_of service.partition a.view.checkpoints.newest)
+      → ReadyLines c lines a.view.id a.view.checkpoints.newest service.partition standing.tuple standing.delivered
       → book lines (place_of c standing).0 (place_of c standing).1 ≡ Some (Batch batch)
       → AfterLines c before (delivers_applied c service standing (place_of c standing) applied a)
   batch_taken service standing batch applied a lines d o t r holds = record {
@@ -128,9 +128,9 @@ module _ (c : Config) (fit : IsFit c) (before : List Line) where
         replies = appended (IsSaid c (printed_past (l ∷ lines) new)) a.replies (map (reply_frame a.view.id service) applied.replies) told_lines.replies (frames_said applied.replies);
         parts = told_lines.parts;
       };
-      replica = still_replica c before (l ∷ lines) new still a.view.id (epoch_of a.view) a.view.checks.newest (Some (record service { stage = stage })) (record {
-        own = OwnLines-same c l lines a.view.id (epoch_of a.view) a.view.checks.newest service.partition service.attempts same o;
-        told = told_same c l lines a.view.id (epoch_of a.view) a.view.checks.newest service.partition same t;
+      replica = still_replica c before (l ∷ lines) new still a.view.id (epoch_of a.view) a.view.checkpoints.newest (Some (record service { stage = stage })) (record {
+        own = OwnLines-same c l lines a.view.id (epoch_of a.view) a.view.checkpoints.newest service.partition service.attempts same o;
+        told = told_same c l lines a.view.id (epoch_of a.view) a.view.checkpoints.newest service.partition same t;
         stage = record {
           ready = rw (same_number a.view.id.0) r.ready;
           valid = valid;
@@ -196,10 +196,10 @@ module _ (c : Config) (fit : IsFit c) (before : List Line) where
       told_lines : DoneLines c before (printed_past (l ∷ lines) new) (prints new (prints (l ∷ []) a))
       told_lines = prints_still c before (l ∷ lines) new still (prints (l ∷ []) a) (prints_done c before lines a d l (λ other ne. differ a.view.id.0 other ne) rule (λ r p k e replica fits h. absurd h))
 
-  place_taken : (service : Service) (standing : Standing) (value : Value) (a : Acting) (lines : List Line) → DoneLines c before lines a
-      → OwnLines c lines a.view.id (epoch_of a.view) a.view.checks.newest service.partition service.attempts
-      → Has (told a.view.id.0 lines) (newest_of service.partition a.view.checks.newest)
-      → ReadyLines c lines a.view.id a.view.checks.newest service.partition standing.tuple standing.delivered
+  place_taken : (service : Service) (standing : Standing) (value : Value) (a : StepSoFar) (lines : List Line) → DoneLines c before lines a
+      → OwnLines c lines a.view.id (epoch_of a.view) a.view.checkpoints.newest service.partition service.attempts
+      → Has (told a.view.id.0 lines) (newest_of service.partition a.view.checkpoints.newest)
+      → ReadyLines c lines a.view.id a.view.checkpoints.newest service.partition standing.tuple standing.delivered
       → book lines (place_of c standing).0 (place_of c standing).1 ≡ Some value
       → AfterLines c before (takes_place c service standing (place_of c standing) value a)
   place_taken service standing Skip a lines d o t r e = record { lines = lines; ties = skips service standing a lines d o t r e }
@@ -207,7 +207,7 @@ module _ (c : Config) (fit : IsFit c) (before : List Line) where
 
   -- ---- place after place
 
-  merging : (most : ℕ) (a : Acting) (lines : List Line) → ActLines c before lines a → AfterLines c before (merges_up_to most c a)
+  merging : (most : ℕ) (a : StepSoFar) (lines : List Line) → ActLines c before lines a → AfterLines c before (merges_up_to most c a)
   merging zero a lines ties = record { lines = lines; ties = ties }
   merging (suc most) a lines ties = by_service a.view.service ties.replica (λ b ls t. merging most b ls t)
     where
@@ -215,29 +215,29 @@ module _ (c : Config) (fit : IsFit c) (before : List Line) where
       as_it_was = record { lines = lines; ties = ties }
 
       by_value : (service : Service) (standing : Standing) (value : Option Value) → value_at_place a.view (place_of c standing) ≡ value
-          → ServiceLines c lines a.view.id (epoch_of a.view) a.view.checks.newest service
-          → ReadyLines c lines a.view.id a.view.checks.newest service.partition standing.tuple standing.delivered
-          → ((b : Acting) (ls : List Line) → ActLines c before ls b → AfterLines c before (merges_up_to most c b))
-          → AfterLines c before (goes_on (merges_up_to most c) c service standing (place_of c standing) value a)
+          → ServiceLines c lines a.view.id (epoch_of a.view) a.view.checkpoints.newest service
+          → ReadyLines c lines a.view.id a.view.checkpoints.newest service.partition standing.tuple standing.delivered
+          → ((b : StepSoFar) (ls : List Line) → ActLines c before ls b → AfterLines c before (merges_up_to most c b))
+          → AfterLines c before (merges_place (merges_up_to most c) c service standing (place_of c standing) value a)
       by_value service standing None e s r rest = as_it_was
       by_value service standing (Some value) e s r rest =
           let one = place_taken service standing value a lines ties.done s.own s.told r
           (booked_at c lines a.view.parts (place_of c standing).0 (place_of c standing).1 value ties.done.parts e) in
           rest (takes_place c service standing (place_of c standing) value a) one.lines one.ties
 
-      by_stage : (service : Service) (stage : Stage) → ServiceLines c lines a.view.id (epoch_of a.view) a.view.checks.newest service
-          → StageLines c lines a.view.id (epoch_of a.view) a.view.checks.newest service.partition stage
-          → ((b : Acting) (ls : List Line) → ActLines c before ls b → AfterLines c before (merges_up_to most c b))
+      by_stage : (service : Service) (stage : Stage) → ServiceLines c lines a.view.id (epoch_of a.view) a.view.checkpoints.newest service
+          → StageLines c lines a.view.id (epoch_of a.view) a.view.checkpoints.newest service.partition stage
+          → ((b : StepSoFar) (ls : List Line) → ActLines c before ls b → AfterLines c before (merges_up_to most c b))
           → AfterLines c before (merges_stage (merges_up_to most c) c service stage a)
       by_stage service (Recovering attempt) s r rest = as_it_was
       by_stage service (Ready standing) s r rest = by_value service standing (value_at_place a.view (place_of c standing)) refl s r rest
 
-      by_service : (service : Option Service) → ReplicaLines c lines a.view.id (epoch_of a.view) a.view.checks.newest service
-          → ((b : Acting) (ls : List Line) → ActLines c before ls b → AfterLines c before (merges_up_to most c b))
+      by_service : (service : Option Service) → ReplicaLines c lines a.view.id (epoch_of a.view) a.view.checkpoints.newest service
+          → ((b : StepSoFar) (ls : List Line) → ActLines c before ls b → AfterLines c before (merges_up_to most c b))
           → AfterLines c before (merges_service (merges_up_to most c) c service a)
       by_service None r rest = as_it_was
       by_service (Some service) r rest = by_stage service service.stage r r.stage rest
 
-  pub merged_all : (a : Acting) (lines : List Line) → ActLines c before lines a → AfterLines c before (merges c a)
+  pub merged_all : (a : StepSoFar) (lines : List Line) → ActLines c before lines a → AfterLines c before (merges c a)
   unfolding merges
   merged_all a lines ties = merging (2 ^ 44 + 1) a lines ties

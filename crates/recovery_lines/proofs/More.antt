@@ -12,7 +12,7 @@ use Rattle.frames.specs.declared.body.Body.{Body}
 use Rattle.frames.specs.declared.body.Body.TheVariants.{AskCheckpoint, HaveCheckpoint, AskPart, Part as PartFrame, Gone, Safe, Promise, Trimmed, TrimTo}
 use Rattle.frames.specs.declared.sent.Sent.{Sent}
 use Rattle.quorums.specs.Groups.{Has}
-use Rattle.checkpoint.specs.Checks.{Checkpoint}
+use Rattle.checkpoint.specs.Checkpoints.{Checkpoint}
 use Rattle.protocol.specs.Lines.{Line}
 use Rattle.protocol.specs.Rings.{subscribers_of}
 use Rattle.protocol.specs.Parts.{Round}

@@ -14,7 +14,7 @@ use Rattle.frames.specs.declared.body.Body.{Body}
 use Rattle.frames.specs.declared.sent.Sent.{Sent}
 use Rattle.protocol.specs.Lines.{Line}
 use Rattle.protocol.specs.Rings.{sends_to, sent_by, is_beyond}
-use Rattle.protocol.specs.Node.{Acting, RingPart, Service, Stage, with_stage, prints, sends_all}
+use Rattle.protocol.specs.Node.{StepSoFar, RingPart, Service, Stage, with_stage, prints, sends_all}
 use Rattle.protocol.specs.Recovery.{with_lowered, lowers}
 use Rattle.faithful.specs.Scanners.{paired, told}
 use Rattle.faithful.specs.Rules.{AllKnown, IsFaithfulLine}
@@ -71,7 +71,7 @@ tells_own c lines x r p q own k e rx rr vo vk (inl same) known =
     some_same : (u v : PartitionTable) → Some u ≡ Some v → u ≡ v
     some_same u v t = cc
 
-module _ (c : Config) (before lines : List Line) (a : Acting) (d : DoneLines c before lines a) where
+module _ (c : Config) (before lines : List Line) (a : StepSoFar) (d : DoneLines c before lines a) where
   pub prints_done : (l : Line) → IsOf a.view.id l → IsRightLine c lines l → TellsKnown c lines l → DoneLines c before (l ∷ lines) (prints (l ∷ []) a)
   prints_done l own f tells = record {
     printed = past_more before a.lines (l ∷ []) ∙ ap (λ (ls : List Line). l ∷ ls) d.printed;

@@ -7,7 +7,7 @@ use Rattle.mrp_types.specs.declared.id.RingId.{RingId}
 use Rattle.mrp_config.specs.Config.{Config}
 use Rattle.mrp_config.specs.declared.tables.PartitionTable.{PartitionTable}
 use Rattle.quorums.specs.Groups.{Has}
-use Rattle.checkpoint.specs.Checks.{Checkpoint}
+use Rattle.checkpoint.specs.Checkpoints.{Checkpoint}
 use Rattle.plain_model.specs.StateBytes.{state_bytes}
 use Rattle.plain_model.specs.Tuples.{round_sizes, instances}
 use Rattle.plain_model.proofs.TupleOrder.{split_and}
@@ -37,8 +37,8 @@ kept_saved c lines x epoch p newest attempts standing state own r = record {
 }
 
 module _ (c : Config) (fit : IsFit c) (lines : List Line) (view : View) (ties : ViewLines c lines view) where
-  saved_lines : (service : Service) (standing : Standing) (state : List ℕ) → OwnLines c lines view.id (epoch_of view) view.checks.newest service.partition service.attempts
-      → ReadyLines c lines view.id view.checks.newest service.partition standing.tuple standing.delivered → 0 < standing.delivered
+  saved_lines : (service : Service) (standing : Standing) (state : List ℕ) → OwnLines c lines view.id (epoch_of view) view.checkpoints.newest service.partition service.attempts
+      → ReadyLines c lines view.id view.checkpoints.newest service.partition standing.tuple standing.delivered → 0 < standing.delivered
       → StepLines c lines (Saved view.id (instances standing.tuple) ∷ lines) view.id (saves view service standing state)
   saved_lines service standing state own r some = record {
     printed = refl;
@@ -80,12 +80,7 @@ module _ (c : Config) (fit : IsFit c) (lines : List Line) (view : View) (ties : 
 
       rule : Saves c lines view.id (instances standing.tuple)
       rule = record {
-        partition = service.partition;
-        replica = own.replica;
-        ready = r.ready;
-        tuple = standing.tuple;
-        shown = refl;
-        reached = r.reached;
+        stands = record { partition = service.partition; replica = own.replica; ready = r.ready; tuple = standing.tuple; shown = refl; reached = r.reached };
         later = λ earlier h. (Reaches-trans _ _ _ r.after (own.kept.reaches earlier h), λ back. r.later some (Reaches-trans _ _ _ (own.kept.reaches earlier h) back));
       }
 
@@ -101,22 +96,22 @@ module _ (c : Config) (fit : IsFit c) (lines : List Line) (view : View) (ties : 
   -- where a tick saves
   abbrev pub SavedOr : Option Stepped → Type 0
   SavedOr None = Unit {0}
-  SavedOr (Some did) = (new : List Line) × StepLines c lines new view.id did
+  SavedOr (Some effects) = (new : List Line) × StepLines c lines new view.id effects
 
   pub saves_lines : SavedOr (saves_first c view view.service)
   saves_lines = by_service view.service ties.replica
     where
-      by_stage : (service : Service) (stage : Stage) → service.stage ≡ stage → ServiceLines c lines view.id (epoch_of view) view.checks.newest service → SavedOr (saves_stage c view service stage)
+      by_stage : (service : Service) (stage : Stage) → service.stage ≡ stage → ServiceLines c lines view.id (epoch_of view) view.checkpoints.newest service → SavedOr (saves_stage c view service stage)
       by_stage service (Recovering attempt) e s = tt
       by_stage service (Ready standing) e s = go (is_due_to_save c view standing) refl
         where
-          ready : ReadyLines c lines view.id view.checks.newest service.partition standing.tuple standing.delivered
-          ready = subst (λ (st : Stage). StageLines c lines view.id (epoch_of view) view.checks.newest service.partition st) e s.stage
+          ready : ReadyLines c lines view.id view.checkpoints.newest service.partition standing.tuple standing.delivered
+          ready = subst (λ (st : Stage). StageLines c lines view.id (epoch_of view) view.checkpoints.newest service.partition st) e s.stage
 
           go : (b : Bool) → is_due_to_save c view standing ≡ b → SavedOr (if b then Some (saves view service standing (state_bytes standing.replica)) else None)
           go false t = tt
           go true t =
-              let due = split_and (nat_lt view.checks.generation (2 ^ 64 - 1)) (nat_le c.checkpoint standing.delivered) t in
+              let due = split_and (nat_lt view.checkpoints.generation (2 ^ 64 - 1)) (nat_le c.checkpoint standing.delivered) t in
               let least : 0 < c.checkpoint = fit.checkpoint in
               let most : c.checkpoint ≤ standing.delivered = at_most c.checkpoint standing.delivered due.1 in
               let some : 0 < standing.delivered = omega arith in
@@ -125,19 +120,19 @@ module _ (c : Config) (fit : IsFit c) (lines : List Line) (view : View) (ties : 
               at_most : (i j : ℕ) → nat_le i j ≡ true → i ≤ j
               at_most i j h = grind (arith, nat_tests)
 
-      by_service : (service : Option Service) → ReplicaLines c lines view.id (epoch_of view) view.checks.newest service → SavedOr (saves_first c view service)
+      by_service : (service : Option Service) → ReplicaLines c lines view.id (epoch_of view) view.checkpoints.newest service → SavedOr (saves_first c view service)
       by_service None s = tt
       by_service (Some service) s = by_stage service service.stage refl s
 
-pub saved_right : (c : Config) (fit : IsFit c) (lines : List Line) (view : View) → ViewLines c lines view → (did : Stepped) → saves_first c view view.service ≡ Some did → (new : List Line) × StepLines c lines new view.id did
-saved_right c fit lines view ties did e = go (saves_first c view view.service) e (saves_lines c fit lines view ties)
+pub saved_right : (c : Config) (fit : IsFit c) (lines : List Line) (view : View) → ViewLines c lines view → (effects : Stepped) → saves_first c view view.service ≡ Some effects → (new : List Line) × StepLines c lines new view.id effects
+saved_right c fit lines view ties effects e = go (saves_first c view view.service) e (saves_lines c fit lines view ties)
   where
     same : (u v : Stepped) → Some u ≡ Some v → u ≡ v
     same u v f = cc
 
-    go : (o : Option Stepped) → o ≡ Some did → SavedOr c fit lines view ties o → (new : List Line) × StepLines c lines new view.id did
+    go : (o : Option Stepped) → o ≡ Some effects → SavedOr c fit lines view ties o → (new : List Line) × StepLines c lines new view.id effects
     go None f s = absurd (cc)
-    go (Some saved) f s = subst (λ (q : Stepped). (new : List Line) × StepLines c lines new view.id q) (same saved did f) s
+    go (Some saved) f s = subst (λ (q : Stepped). (new : List Line) × StepLines c lines new view.id q) (same saved effects f) s
 
 -- ---- down and up again
 

@@ -8,7 +8,7 @@ use Rattle.mrp_types.specs.declared.id.RingId.{RingId}
 use Rattle.mrp_config.specs.Config.{Config, has_node, has_ring}
 use Rattle.mrp_config.specs.declared.tables.PartitionTable.{PartitionTable}
 use Rattle.quorums.specs.Groups.{Has}
-use Rattle.checkpoint.specs.Checks.{Checkpoint}
+use Rattle.checkpoint.specs.Checkpoints.{Checkpoint}
 use Rattle.plain_model.specs.Tuples.{instances}
 use Rattle.protocol.specs.Lines.{Line, Trim}
 use Rattle.protocol.specs.Rings.{subscribers_of}

@@ -14,7 +14,7 @@ use Rattle.frames.specs.declared.sent.Sent.{Sent}
 use Rattle.range_map.specs.Entries.{IsIncreasingFrom}
 use Rattle.vote_state.specs.State.{State, trim_at}
 use Rattle.quorums.specs.Groups.{Has}
-use Rattle.checkpoint.specs.Checks.{Checkpoint}
+use Rattle.checkpoint.specs.Checkpoints.{Checkpoint}
 use Rattle.plain_model.specs.Tuples.{round_sizes, is_tuple_of, instances}
 use Rattle.protocol.specs.Lines.{Line, Chose}
 use Rattle.protocol.specs.Parts.{Ring, Round}
@@ -22,7 +22,7 @@ use Rattle.protocol.specs.Opening.{partition_of}
 use Rattle.protocol.specs.Rings.{subscribers_of}
 use Rattle.protocol.specs.Learner.{value_in}
 use Rattle.protocol.specs.Recovery.{tuple_of_newest}
-use Rattle.protocol.specs.Node.{RingPart, Stage, Recovering, Ready, Choice, Service, Acting, View, Stepped}
+use Rattle.protocol.specs.Node.{RingPart, Stage, Recovering, Ready, Choice, Service, StepSoFar, View, Stepped}
 use Rattle.faithful.specs.Scanners.{Begun, Restored, past, touches, tuples_told, life, up_epoch, attempting, unchosen, chosen, before_begin, before_attempt, told, begun, entry_of, Reaches, some_reaches, position, book}
 use Rattle.faithful.specs.Answers.{AreDifferent}
 use Rattle.faithful.specs.Rules.{AllKnown, BySkips, Chooses, IsFaithfulLine, AreFaithful, AllHaveTold, HasNode, HasRing}
@@ -242,7 +242,7 @@ abbrev pub IsOf : NodeId → Line → Type 0
 IsOf x l = (other : ℕ) → (x.0 ≡ other → ⊥) → touches other l ≡ false
 
 -- all but the replica
-pub record DoneLines (c : Config) (before lines : List Line) (a : Acting) : Type 0 where
+pub record DoneLines (c : Config) (before lines : List Line) (a : StepSoFar) : Type 0 where
   pub printed : past before a.lines ≡ lines
   pub own : AllByRecursion (IsOf a.view.id) a.lines
   pub right : AreRight c lines
@@ -251,30 +251,30 @@ pub record DoneLines (c : Config) (before lines : List Line) (a : Acting) : Type
   pub replies : AllByRecursion (IsSaid c lines) a.replies
   pub parts : AllByRecursion (PartLines lines) a.view.parts
 
-pub record ActLines (c : Config) (before lines : List Line) (a : Acting) : Type 0 where
+pub record ActLines (c : Config) (before lines : List Line) (a : StepSoFar) : Type 0 where
   pub done : DoneLines c before lines a
-  pub replica : ReplicaLines c lines a.view.id a.view.journal.state.epoch a.view.checks.newest a.view.service
+  pub replica : ReplicaLines c lines a.view.id a.view.journal.state.epoch a.view.checkpoints.newest a.view.service
 
 -- after some lines more
-pub record AfterLines (c : Config) (before : List Line) (a : Acting) : Type 0 where
+pub record AfterLines (c : Config) (before : List Line) (a : StepSoFar) : Type 0 where
   pub lines : List Line
   pub ties : ActLines c before lines a
 
 -- ---- a step's end
 
 -- what a step leaves, once its work is done: `lines` are those so far with its own
-pub record StepLines (c : Config) (before lines : List Line) (x : NodeId) (did : Stepped) : Type 0 where
-  pub printed : past before did.lines ≡ lines
-  pub own : AllByRecursion (IsOf x) did.lines
+pub record StepLines (c : Config) (before lines : List Line) (x : NodeId) (effects : Stepped) : Type 0 where
+  pub printed : past before effects.lines ≡ lines
+  pub own : AllByRecursion (IsOf x) effects.lines
   pub right : AreRight c lines
   pub known : KnownLines c lines
-  pub frames : AllByRecursion (IsSaid c lines) did.frames
-  pub parts : AllByRecursion (PartLines lines) did.view.parts
-  pub replica : ReplicaLines c lines x did.view.journal.state.epoch did.view.checks.newest did.view.service
+  pub frames : AllByRecursion (IsSaid c lines) effects.frames
+  pub parts : AllByRecursion (PartLines lines) effects.view.parts
+  pub replica : ReplicaLines c lines x effects.view.journal.state.epoch effects.view.checkpoints.newest effects.view.service
 
 -- between two steps
 pub record ViewLines (c : Config) (lines : List Line) (view : View) : Type 0 where
   pub right : AreRight c lines
   pub known : KnownLines c lines
   pub parts : AllByRecursion (PartLines lines) view.parts
-  pub replica : ReplicaLines c lines view.id view.journal.state.epoch view.checks.newest view.service
+  pub replica : ReplicaLines c lines view.id view.journal.state.epoch view.checkpoints.newest view.service

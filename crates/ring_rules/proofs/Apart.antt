@@ -21,11 +21,11 @@ use Rattle.ring_link.specs.Silence.{Link}
 use Rattle.frames.specs.declared.body.Body.{Body}
 use Rattle.frames.specs.declared.body.Body.TheVariants as body
 use Rattle.frames.specs.declared.sent.Sent.{Sent}
-use Rattle.protocol.specs.Parts.{Ring, Campaign, Part, Did, Role, Idle, Active}
+use Rattle.protocol.specs.Parts.{Ring, Campaign, Part, Effects, Role, Idle, Active}
 use Rattle.protocol.specs.Rings.{is_node, owner_of, position_of, majority_of, has_bit, with_bit, next_acceptor, next_member, sends, is_beyond}
-use Rattle.protocol.specs.Doing.{nothing_done, with_part, with_change, with_frames, with_kept, with_campaign}
+use Rattle.protocol.specs.Effects.{no_effects, with_part, with_change, with_frames, with_kept, with_campaign}
 use Rattle.protocol.specs.Learner.{decided_of}
-use Rattle.protocol.specs.Acceptor.{promised_part, promises, votes_for, promise_of, tells_promise, refuses, tells_trim, prepares, first_decide, decides, goes_on, accepts_at, accepts}
+use Rattle.protocol.specs.Acceptor.{promised_part, promises, votes_for, promises_anew, votes_anew, promise_of, tells_promise, refuses, tells_trim, prepares, first_decide, decides, decides_or_forwards, accepts_at, accepts}
 use Rattle.protocol.specs.Proposing.{own_mask, after_offer, vote_of, offers, Turn, Stops, Proposes, Choice, Rests, Offers, choice, advanced, turn_by, turn_in, turn_of, proposing, proposes_after}
 use Rattle.protocol.specs.Lines.{Line, Learn}
 use Rattle.ring_rules.specs.Own.{IsChangeOf, IsBodyOf, IsSentOf, IsOf}
@@ -86,57 +86,63 @@ of_sends ring (Some to) b is = go (to.0 == ring.own.0 || is_beyond b)
     go false = (is, tt)
 
 module _ (ring : Ring) where
-  pub of_none : (part : Part) → IsOf ring (nothing_done part)
+  pub of_none : (part : Part) → IsOf ring (no_effects part)
   of_none part = record { changes = tt; frames = tt; lines = tt }
 
-  pub of_frames : (did : Did) (frames : List Sent) → AllByRecursion (IsSentOf ring.id) frames → IsOf ring did → IsOf ring (with_frames frames did)
-  of_frames did frames is o = record { changes = o.changes; frames = appended (IsSentOf ring.id) did.frames frames o.frames is; lines = o.lines }
+  pub of_frames : (effects : Effects) (frames : List Sent) → AllByRecursion (IsSentOf ring.id) frames → IsOf ring effects → IsOf ring (with_frames frames effects)
+  of_frames effects frames is o = record { changes = o.changes; frames = appended (IsSentOf ring.id) effects.frames frames o.frames is; lines = o.lines }
 
-  pub of_change : (did : Did) (c : Change) (part : Part) → IsChangeOf ring.id c → IsOf ring did → IsOf ring (with_change c part did)
-  of_change did c part is o = record { changes = appended (IsChangeOf ring.id) did.changes (c ∷ []) o.changes (is, tt); frames = o.frames; lines = o.lines }
+  pub of_change : (effects : Effects) (c : Change) (part : Part) → IsChangeOf ring.id c → IsOf ring effects → IsOf ring (with_change c part effects)
+  of_change effects c part is o = record { changes = appended (IsChangeOf ring.id) effects.changes (c ∷ []) o.changes (is, tt); frames = o.frames; lines = o.lines }
 
-  pub of_promises : (did : Did) (ballot : ℕ) → IsOf ring did → IsOf ring (promises ring ballot did)
-  of_promises did ballot o = go (ballot == did.part.kept.promise)
+  pub of_promises : (effects : Effects) (ballot : ℕ) → IsOf ring effects → IsOf ring (promises ring ballot effects)
+  of_promises effects ballot o = of_change effects (Promise ring.id ballot) (promised_part ballot effects.part) refl o
+
+  of_votes : (effects : Effects) (vote : Voted) → IsOf ring effects → IsOf ring (votes_for ring vote effects)
+  of_votes effects vote o = of_change effects (Vote ring.id vote) (with_kept (with_vote vote effects.part.kept) effects.part) refl o
+
+  of_promises_anew : (effects : Effects) (ballot : ℕ) → IsOf ring effects → IsOf ring (promises_anew ring ballot effects)
+  of_promises_anew effects ballot o = go (ballot == effects.part.kept.promise)
     where
-      go : (b : Bool) → IsOf ring (if b then did else with_change (Promise ring.id ballot) (promised_part ballot did.part) did)
+      go : (b : Bool) → IsOf ring (if b then effects else promises ring ballot effects)
       go true = o
-      go false = of_change did (Promise ring.id ballot) (promised_part ballot did.part) refl o
+      go false = of_promises effects ballot o
 
-  of_votes : (did : Did) (vote : Voted) → IsOf ring did → IsOf ring (votes_for ring vote did)
-  of_votes did vote o = go (are_held vote did.part.kept.votes)
+  of_votes_anew : (effects : Effects) (vote : Voted) → IsOf ring effects → IsOf ring (votes_anew ring vote effects)
+  of_votes_anew effects vote o = go (are_held vote effects.part.kept.votes)
     where
-      go : (b : Bool) → IsOf ring (if b then did else with_change (Vote ring.id vote) (with_kept (with_vote vote did.part.kept) did.part) did)
+      go : (b : Bool) → IsOf ring (if b then effects else votes_for ring vote effects)
       go true = o
-      go false = of_change did (Vote ring.id vote) (with_kept (with_vote vote did.part.kept) did.part) refl o
+      go false = of_votes effects vote o
 
-  of_goes_on : (did : Did) (link : Link) (mask : ℕ) (vote : Voted) → IsOf ring did → IsOf ring (goes_on ring link mask vote did)
-  of_goes_on did link mask vote o = go (nat_le (majority_of ring) (count_ones mask))
+  of_decides_or_forwards : (effects : Effects) (link : Link) (mask : ℕ) (vote : Voted) → IsOf ring effects → IsOf ring (decides_or_forwards ring link mask vote effects)
+  of_decides_or_forwards effects link mask vote o = go (nat_le (majority_of ring) (count_ones mask))
     where
       first : (b : Bool) → AllByRecursion (IsSentOf ring.id) (if b then sends ring (next_member ring link) (body.Decide ring.id vote.lo vote.hi (length ring.members - 2) vote.value) else [])
       first true = of_sends ring (next_member ring link) (body.Decide ring.id vote.lo vote.hi (length ring.members - 2) vote.value) refl
       first false = tt
 
-      go : (b : Bool) → IsOf ring (if b then decides ring link (decided_of vote) did
-          else with_frames (sends ring (next_acceptor ring link) (body.Accept ring.id vote.ballot vote.lo vote.hi mask vote.value)) did)
+      go : (b : Bool) → IsOf ring (if b then decides ring link (decided_of vote) effects
+          else with_frames (sends ring (next_acceptor ring link) (body.Accept ring.id vote.ballot vote.lo vote.hi mask vote.value)) effects)
       go true =
-          let f = of_frames did (first_decide ring link (decided_of vote)) (first (nat_le 2 (length ring.members))) o in
+          let f = of_frames effects (first_decide ring link (decided_of vote)) (first (nat_le 2 (length ring.members))) o in
           record { changes = f.changes; frames = f.frames; lines = f.lines }
-      go false = of_frames did _ (of_sends ring (next_acceptor ring link) (body.Accept ring.id vote.ballot vote.lo vote.hi mask vote.value) refl) o
+      go false = of_frames effects _ (of_sends ring (next_acceptor ring link) (body.Accept ring.id vote.ballot vote.lo vote.hi mask vote.value) refl) o
 
   pub of_prepares : (part : Part) (from : NodeId) (ballot lo : ℕ) → IsOf ring (prepares ring part from ballot lo)
   unfolding prepares
   of_prepares part from ballot lo = go (not (is_node from (owner_of ring ballot))) (nat_lt ballot part.kept.promise)
     where
-      told : Did
-      told = promises ring ballot (nothing_done part)
+      told : Effects
+      told = promises ring ballot (no_effects part)
 
-      go : (b c : Bool) → IsOf ring (if b then nothing_done part else if c then refuses ring (Some from) ballot part
-          else tells_promise ring from ballot lo (promises ring ballot (nothing_done part)))
+      go : (b c : Bool) → IsOf ring (if b then no_effects part else if c then refuses ring (Some from) ballot part
+          else tells_promise ring from ballot lo (promises ring ballot (no_effects part)))
       go true c = of_none part
-      go false true = of_frames (nothing_done part) _ (of_sends ring (Some from) (body.Refuse ring.id ballot part.kept.promise) tt) (of_none part)
+      go false true = of_frames (no_effects part) _ (of_sends ring (Some from) (body.Refuse ring.id ballot part.kept.promise) tt) (of_none part)
       go false false =
-          of_frames (promises ring ballot (nothing_done part)) (sends ring (Some from) (promise_of ring ballot lo (promises ring ballot (nothing_done part)).part.kept))
-          (of_sends ring (Some from) (promise_of ring ballot lo (promises ring ballot (nothing_done part)).part.kept) refl) (of_promises (nothing_done part) ballot (of_none part))
+          of_frames (promises ring ballot (no_effects part)) (sends ring (Some from) (promise_of ring ballot lo (promises ring ballot (no_effects part)).part.kept))
+          (of_sends ring (Some from) (promise_of ring ballot lo (promises ring ballot (no_effects part)).part.kept) refl) (of_promises (no_effects part) ballot (of_none part))
 
   pub of_accepts : (link : Link) (part : Part) (ballot lo hi mask : ℕ) (value : Value) → IsOf ring (accepts ring link part ballot lo hi mask value)
   unfolding accepts
@@ -147,46 +153,46 @@ module _ (ring : Ring) where
       at (Some position) = go (nat_lt ballot part.kept.promise) (nat_lt lo part.kept.trim) (has_bit mask position)
         where
           go : (b c d : Bool) → IsOf ring (if b then refuses ring (owner_of ring ballot) ballot part else if c then tells_trim ring (owner_of ring ballot) part
-              else if d then nothing_done part
-              else goes_on ring link (with_bit mask position) (record { lo = lo; hi = hi; ballot = ballot; value = value })
-              (votes_for ring (record { lo = lo; hi = hi; ballot = ballot; value = value }) (promises ring ballot (nothing_done part))))
-          go true c d = of_frames (nothing_done part) _ (of_sends ring (owner_of ring ballot) (body.Refuse ring.id ballot part.kept.promise) tt) (of_none part)
-          go false true d = of_frames (nothing_done part) _ (of_sends ring (owner_of ring ballot) (body.Trimmed ring.id part.kept.trim) tt) (of_none part)
+              else if d then no_effects part
+              else decides_or_forwards ring link (with_bit mask position) (record { lo = lo; hi = hi; ballot = ballot; value = value })
+              (votes_anew ring (record { lo = lo; hi = hi; ballot = ballot; value = value }) (promises_anew ring ballot (no_effects part))))
+          go true c d = of_frames (no_effects part) _ (of_sends ring (owner_of ring ballot) (body.Refuse ring.id ballot part.kept.promise) tt) (of_none part)
+          go false true d = of_frames (no_effects part) _ (of_sends ring (owner_of ring ballot) (body.Trimmed ring.id part.kept.trim) tt) (of_none part)
           go false false true = of_none part
           go false false false =
-              of_goes_on (votes_for ring (record { lo = lo; hi = hi; ballot = ballot; value = value }) (promises ring ballot (nothing_done part))) link (with_bit mask position)
+              of_decides_or_forwards (votes_anew ring (record { lo = lo; hi = hi; ballot = ballot; value = value }) (promises_anew ring ballot (no_effects part))) link (with_bit mask position)
               (record { lo = lo; hi = hi; ballot = ballot; value = value })
-              (of_votes (promises ring ballot (nothing_done part)) (record { lo = lo; hi = hi; ballot = ballot; value = value }) (of_promises (nothing_done part) ballot (of_none part)))
+              (of_votes_anew (promises_anew ring ballot (no_effects part)) (record { lo = lo; hi = hi; ballot = ballot; value = value }) (of_promises_anew (no_effects part) ballot (of_none part)))
 
-  pub of_offers : (did : Did) (link : Link) (campaign : Campaign) (range : Decided) (taken : ℕ) → IsOf ring did → IsOf ring (offers ring link campaign range taken did)
+  pub of_offers : (effects : Effects) (link : Link) (campaign : Campaign) (range : Decided) (taken : ℕ) → IsOf ring effects → IsOf ring (offers ring link campaign range taken effects)
   unfolding offers
-  of_offers did link campaign range taken o =
-      of_goes_on (votes_for ring (vote_of campaign.ballot range) (with_part (with_campaign (after_offer ring range taken campaign) did.part) did)) link (own_mask ring) (vote_of campaign.ballot range)
-      (of_votes (with_part (with_campaign (after_offer ring range taken campaign) did.part) did) (vote_of campaign.ballot range) (record { changes = o.changes; frames = o.frames; lines = o.lines }))
+  of_offers effects link campaign range taken o =
+      of_decides_or_forwards (votes_for ring (vote_of campaign.ballot range) (with_part (with_campaign (after_offer ring range taken campaign) effects.part) effects)) link (own_mask ring) (vote_of campaign.ballot range)
+      (of_votes (with_part (with_campaign (after_offer ring range taken campaign) effects.part) effects) (vote_of campaign.ballot range) (record { changes = o.changes; frames = o.frames; lines = o.lines }))
 
   abbrev TurnOf : Turn → Type 0
-  TurnOf (Stops did) = IsOf ring did
-  TurnOf (Proposes campaign range taken did) = IsOf ring did
+  TurnOf (Stops effects) = IsOf ring effects
+  TurnOf (Proposes campaign range taken effects) = IsOf ring effects
 
-  of_turn : (did : Did) → IsOf ring did → TurnOf (turn_of ring did)
-  of_turn did o = by_role did.part.coordinator.role
+  of_turn : (effects : Effects) → IsOf ring effects → TurnOf (turn_of ring effects)
+  of_turn effects o = by_role effects.part.coordinator.role
     where
-      by_choice : (campaign : Campaign) (c : Choice) → TurnOf (turn_by did campaign c)
+      by_choice : (campaign : Campaign) (c : Choice) → TurnOf (turn_by effects campaign c)
       by_choice campaign Rests = record { changes = o.changes; frames = o.frames; lines = o.lines }
       by_choice campaign (Offers range taken) = o
 
-      by_role : (role : Role) → TurnOf (turn_in ring did role)
+      by_role : (role : Role) → TurnOf (turn_in ring effects role)
       by_role Idle = o
-      by_role (Active campaign) = by_choice (advanced did.part campaign) (choice ring (advanced did.part campaign) did.part.learner.held)
+      by_role (Active campaign) = by_choice (advanced effects.part campaign) (choice ring (advanced effects.part campaign) effects.part.learner.held)
 
   of_proposing : (count : ℕ) (link : Link) (turn : Turn) → TurnOf turn → IsOf ring (proposing count ring link turn)
   unfolding proposing
-  of_proposing zero link (Stops did) o = o
-  of_proposing zero link (Proposes campaign range taken did) o = o
-  of_proposing (suc count) link (Stops did) o = o
-  of_proposing (suc count) link (Proposes campaign range taken did) o =
-      of_proposing count link (turn_of ring (offers ring link campaign range taken did)) (of_turn (offers ring link campaign range taken did) (of_offers did link campaign range taken o))
+  of_proposing zero link (Stops effects) o = o
+  of_proposing zero link (Proposes campaign range taken effects) o = o
+  of_proposing (suc count) link (Stops effects) o = o
+  of_proposing (suc count) link (Proposes campaign range taken effects) o =
+      of_proposing count link (turn_of ring (offers ring link campaign range taken effects)) (of_turn (offers ring link campaign range taken effects) (of_offers effects link campaign range taken o))
 
-  pub of_proposes_after : (did : Did) (link : Link) → IsOf ring did → IsOf ring (proposes_after ring link did)
+  pub of_proposes_after : (effects : Effects) (link : Link) → IsOf ring effects → IsOf ring (proposes_after ring link effects)
   unfolding proposes_after
-  of_proposes_after did link o = of_proposing END link (turn_of ring did) (of_turn did o)
+  of_proposes_after effects link o = of_proposing END link (turn_of ring effects) (of_turn effects o)

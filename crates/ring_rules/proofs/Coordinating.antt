@@ -21,9 +21,9 @@ use Rattle.ring_link.specs.Silence.{Link}
 use Rattle.frames.specs.declared.body.Body.TheVariants as body
 use Rattle.ring_reach.specs.Reach.{seen}
 use Rattle.ring_reach.proofs.Reaching.{reach_one, Local-reach, seen_more, seen_from}
-use Rattle.protocol.specs.Parts.{Ring, Role, Idle, Active, Learner, Part, Did}
+use Rattle.protocol.specs.Parts.{Ring, Role, Idle, Active, Learner, Part, Effects}
 use Rattle.protocol.specs.Rings.{position_of, sends}
-use Rattle.protocol.specs.Doing.{with_part, with_campaign, with_change, with_frames, with_kept, nothing_done}
+use Rattle.protocol.specs.Effects.{with_part, with_campaign, with_change, with_frames, with_kept, no_effects}
 use Rattle.protocol.specs.Learner.{first_of, is_news, with_range_learned, role_unfinished, without_finished, role_without, learns_news, learns}
 use Rattle.protocol.specs.Acceptor.{trims_to}
 use Rattle.protocol.specs.Ballots.{Page, with_page, asks_more, counts, reported_at, reported}
@@ -39,9 +39,10 @@ use Rattle.ring_safety.proofs.Deeds.{Grows-done}
 use Rattle.ring_kept.proofs.Keeping.{kept_trimmed}
 use Rattle.ring_tables.specs.Ties.{acceptors, IsOutstanding, RoleTies, LearnerTies, PartTies, PromiseSaid, IsSaid, IsRangeChosen, IsChosen}
 use Rattle.ring_tables.proofs.More.{RoleTies-more, PromiseSaid-more}
-use Rattle.ring_tables.specs.Done.{DidTies, After}
-use Rattle.ring_tables.proofs.Doing.{same_number, said_sends, did_none, did_frames, done_changed}
-use Rattle.ring_tables.proofs.Reporting.{reports_ordered, reported_page}
+use Rattle.ring_tables.specs.Done.{EffectsTie, After}
+use Rattle.ring_tables.proofs.Effects.{same_number, said_sends, effects_none, effects_frames, done_changed}
+use Rattle.protocol.proofs.OfferLemmas.{reports_ordered}
+use Rattle.ring_tables.proofs.Reporting.{reported_page}
 use Rattle.ring_tables.proofs.Offering.{proposes_after_ties}
 
 filtered : {T : Type 0} (P : T → Type 0) (test : T → Bool) (xs : List T) → AllByRecursion P xs → AllByRecursion P (filter test xs)
@@ -121,38 +122,38 @@ module _ (ring : Ring) (faces : ℕ → Face Value) (a : ℕ) (seat : position_o
     (all : (k : ℕ) → Local (acceptors ring) faces k (faces k)) (start : Face Value) (local : Local (acceptors ring) faces a start) (kept : RingState) where
   -- ---- trims
 
-  pub did_trims : (f : Face Value) (did : Did) (trim : ℕ) → DidTies ring faces a start kept f did → After ring faces a start kept f (trims_to ring trim did)
-  did_trims f did trim t = go (nat_le trim did.part.kept.trim) refl
+  pub effects_trims : (f : Face Value) (effects : Effects) (trim : ℕ) → EffectsTie ring faces a start kept f effects → After ring faces a start kept f (trims_to ring trim effects)
+  effects_trims f effects trim t = go (nat_le trim effects.part.kept.trim) refl
     where
-      go : (b : Bool) → nat_le trim did.part.kept.trim ≡ b
-          → After ring faces a start kept f (if b then did else with_change (change.Trim ring.id trim) (without_finished (with_kept (with_trim trim did.part.kept) did.part)) did)
+      go : (b : Bool) → nat_le trim effects.part.kept.trim ≡ b
+          → After ring faces a start kept f (if b then effects else with_change (change.Trim ring.id trim) (without_finished (with_kept (with_trim trim effects.part.kept) effects.part)) effects)
       go true e = record { face = f; grows = Grows-refl f; ties = t }
       go false e =
           let g : Face Value = done (Trims trim) f in
-          let same : f.trim ≡ did.part.kept.trim = t.done.kept.trim in
+          let same : f.trim ≡ effects.part.kept.trim = t.done.kept.trim in
           let may : f.trim ≤ trim = grind (arith, nat_tests) in
           let grows : Grows f g = Grows-done (acceptors ring) faces a f (Trims trim) may in
           record {
             face = g;
             grows = grows;
             ties = record {
-              done = done_changed ring faces a start kept f g did (reach_one (acceptors ring) faces a f (Trims trim) may) grows t.done (change.Trim ring.id trim)
-                  (without_finished (with_kept (with_trim trim did.part.kept) did.part)) (record { stand = ((λ r. omega arith), tt); voted = λ c h. inl h }) (rw (same_number ring.id.0) refl) refl (kept_trimmed f did.part.kept trim t.done.kept);
-              role = unfinished_ties (acceptors ring) (seen faces a g) g trim did.part.learner.held did.part.coordinator.role
-                  (RoleTies-more (acceptors ring) (seen faces a f) (seen faces a g) (seen_more (acceptors ring) faces a f g grows) f g did.part.coordinator.role grows refl refl t.role);
+              done = done_changed ring faces a start kept f g effects (reach_one (acceptors ring) faces a f (Trims trim) may) grows t.done (change.Trim ring.id trim)
+                  (without_finished (with_kept (with_trim trim effects.part.kept) effects.part)) (record { stand = ((λ r. omega arith), tt); voted = λ c h. inl h }) (rw (same_number ring.id.0) refl) refl (kept_trimmed f effects.part.kept trim t.done.kept);
+              role = unfinished_ties (acceptors ring) (seen faces a g) g trim effects.part.learner.held effects.part.coordinator.role
+                  (RoleTies-more (acceptors ring) (seen faces a f) (seen faces a g) (seen_more (acceptors ring) faces a f g grows) f g effects.part.coordinator.role grows refl refl t.role);
               told = t.told;
             };
           }
 
   -- ---- a page is reported
 
-  pub did_reported : (f : Face Value) (did : Did) (from : NodeId) (page : Page) (trim : ℕ)
-      → ((k : ℕ) → position_of ring from ≡ Some k → PromiseSaid (seen faces a f k) page.ballot page.lo page.hi trim page.votes) → trim ≤ did.part.kept.trim
-      → DidTies ring faces a start kept f did → DidTies ring faces a start kept f (reported ring from page did)
-  did_reported f did from page trim said le t = by_role did.part.coordinator.role t.role (position_of ring from) refl
+  pub effects_reported : (f : Face Value) (effects : Effects) (from : NodeId) (page : Page) (trim : ℕ)
+      → ((k : ℕ) → position_of ring from ≡ Some k → PromiseSaid (seen faces a f k) page.ballot page.lo page.hi trim page.votes) → trim ≤ effects.part.kept.trim
+      → EffectsTie ring faces a start kept f effects → EffectsTie ring faces a start kept f (reported ring from page effects)
+  effects_reported f effects from page trim said le t = by_role effects.part.coordinator.role t.role (position_of ring from) refl
     where
       by_role : (role : Role) → RoleTies (acceptors ring) (seen faces a f) f role → (o : Option ℕ) → position_of ring from ≡ o
-          → DidTies ring faces a start kept f (reported_at ring from page role o did)
+          → EffectsTie ring faces a start kept f (reported_at ring from page role o effects)
       by_role Idle r o e = t
       by_role (Active campaign) r None e = t
       by_role (Active campaign) r (Some k) e = by_test (counts page campaign.ballot (slice_index campaign.covered k)) refl
@@ -168,7 +169,7 @@ module _ (ring : Ring) (faces : ℕ → Face Value) (a : ℕ) (seat : position_o
           seated = seats from k e
 
           by_test : (b : Bool) → counts page campaign.ballot (slice_index campaign.covered k) ≡ b
-              → DidTies ring faces a start kept f (if b then with_frames (asks_more ring from page) (with_part (with_campaign (with_page k (slice_index campaign.covered k) page campaign) did.part) did) else did)
+              → EffectsTie ring faces a start kept f (if b then with_frames (asks_more ring from page) (with_part (with_campaign (with_page k (slice_index campaign.covered k) page campaign) effects.part) effects) else effects)
           by_test false c = t
           by_test true c =
               let d = t.done in
@@ -182,11 +183,11 @@ module _ (ring : Ring) (faces : ℕ → Face Value) (a : ℕ) (seat : position_o
               let past : slice_index campaign.covered k < page.hi = grind (arith, nat_tests) in
               let from_low : s.promise.low ≡ page.lo = s.low in
               let trimmed : s.promise.trim ≡ trim = s.trimmed in
-              let own_trim : f.trim ≡ did.part.kept.trim = d.kept.trim in
+              let own_trim : f.trim ≡ effects.part.kept.trim = d.kept.trim in
               let sized : length campaign.covered ≡ acceptors ring = r.sized in
               let top : page.hi ≤ END = s.ended in
               let under : k < acceptors ring = seated in
-              did_frames ring faces a start kept f (with_part (with_campaign (with_page k (slice_index campaign.covered k) page campaign) did.part) did) (asks_more ring from page) (asks (page.hi == END))
+              effects_frames ring faces a start kept f (with_part (with_campaign (with_page k (slice_index campaign.covered k) page campaign) effects.part) effects) (asks_more ring from page) (asks (page.hi == END))
               (record {
                 done = record { reached = d.reached; kept = d.kept; learner = d.learner; changes = d.changes; frames = d.frames; learned = d.learned; recorded = d.recorded };
                 role = record {
@@ -213,11 +214,11 @@ module _ (ring : Ring) (faces : ℕ → Face Value) (a : ℕ) (seat : position_o
                 told = t.told;
               })
 
-  pub trims_above : (trim : ℕ) (did : Did) → trim ≤ (trims_to ring trim did).part.kept.trim
-  trims_above trim did = go (nat_le trim did.part.kept.trim) refl
+  pub trims_above : (trim : ℕ) (effects : Effects) → trim ≤ (trims_to ring trim effects).part.kept.trim
+  trims_above trim effects = go (nat_le trim effects.part.kept.trim) refl
     where
-      go : (b : Bool) → nat_le trim did.part.kept.trim ≡ b
-          → trim ≤ (if b then did else with_change (change.Trim ring.id trim) (without_finished (with_kept (with_trim trim did.part.kept) did.part)) did).part.kept.trim
+      go : (b : Bool) → nat_le trim effects.part.kept.trim ≡ b
+          → trim ≤ (if b then effects else with_change (change.Trim ring.id trim) (without_finished (with_kept (with_trim trim effects.part.kept) effects.part)) effects).part.kept.trim
       go true e = grind (arith, nat_tests)
       go false e = omega arith
 
@@ -227,11 +228,11 @@ module _ (ring : Ring) (faces : ℕ → Face Value) (a : ℕ) (seat : position_o
       → After ring faces a start kept start (promised ring link part from ballot lo hi trim votes)
   unfolding promised
   promised_ties link part same t from ballot lo hi trim votes said =
-      let first : After ring faces a start kept start (trims_to ring trim (nothing_done part)) = did_trims start (nothing_done part) trim (did_none ring faces a start kept part t same) in
+      let first : After ring faces a start kept start (trims_to ring trim (no_effects part)) = effects_trims start (no_effects part) trim (effects_none ring faces a start kept part t same) in
       let page : Page = record { ballot = ballot; lo = lo; hi = hi; votes = votes } in
       let own : Local (acceptors ring) faces a first.face = Local-reach (acceptors ring) faces a all start first.face local first.ties.done.reached in
       let now : (k : ℕ) → Grows (faces k) (seen faces a first.face k) = seen_from (acceptors ring) faces a first.face own.grown in
-      let told = did_reported first.face (trims_to ring trim (nothing_done part)) from page trim
-      (λ k at. PromiseSaid-more (faces k) (seen faces a first.face k) ballot lo hi trim votes (now k) (said k at)) (trims_above trim (nothing_done part)) first.ties in
-      let rest = proposes_after_ties ring faces a seat within all start local kept first.face link (reported ring from page (trims_to ring trim (nothing_done part))) told in
+      let told = effects_reported first.face (trims_to ring trim (no_effects part)) from page trim
+      (λ k at. PromiseSaid-more (faces k) (seen faces a first.face k) ballot lo hi trim votes (now k) (said k at)) (trims_above trim (no_effects part)) first.ties in
+      let rest = proposes_after_ties ring faces a seat within all start local kept first.face link (reported ring from page (trims_to ring trim (no_effects part))) told in
       record { face = rest.face; grows = Grows-trans first.grows rest.grows; ties = rest.ties }

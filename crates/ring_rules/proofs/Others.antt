@@ -22,9 +22,9 @@ use Rattle.quorums.specs.Groups.{Has}
 use Rattle.ring_reach.specs.Reach.{seen, proposal}
 use Rattle.ring_reach.proofs.Reaching.{seen_own}
 use Rattle.protocol.specs.Lines.{InstanceLimit}
-use Rattle.protocol.specs.Parts.{Ring, Campaign, Role, Idle, Active, Part, Did}
+use Rattle.protocol.specs.Parts.{Ring, Campaign, Role, Idle, Active, Part, Effects}
 use Rattle.protocol.specs.Rings.{position_of, owner_of, has_bit, next_member, next_acceptor, sends}
-use Rattle.protocol.specs.Doing.{with_frames, with_campaign, with_line, nothing_done}
+use Rattle.protocol.specs.Effects.{with_frames, with_campaign, with_line, no_effects}
 use Rattle.protocol.specs.Learner.{learned_ranges, passed_on, decided, chosen}
 use Rattle.protocol.specs.Acceptor.{page_room, ranges_page, tells_ranges, tells_trim, fetches}
 use Rattle.protocol.specs.Ballots.{leads_now, greatest_seen}
@@ -41,10 +41,10 @@ use Rattle.ring_kept.proofs.Keeping.{cut_above, cut_below}
 use Rattle.ring_kept.proofs.Masks.{own_bit}
 use Rattle.ring_tables.specs.Ties.{acceptors, IsChosen, IsRangeChosen, IsOutstanding, RoleTies, CampaignTies, PartTies, AcceptSaid, IsSaid}
 use Rattle.ring_tables.proofs.More.{appended}
-use Rattle.ring_tables.specs.Done.{DidTies, After}
-use Rattle.ring_tables.proofs.Doing.{said_sends, did_none, did_frames, did_learned}
+use Rattle.ring_tables.specs.Done.{EffectsTie, After}
+use Rattle.ring_tables.proofs.Effects.{said_sends, effects_none, effects_frames, effects_learned}
 use Rattle.ring_tables.proofs.Offering.{proposes_after_ties}
-use Rattle.ring_rules.proofs.Coordinating.{did_trims}
+use Rattle.ring_rules.proofs.Coordinating.{effects_trims}
 
 -- ---- learned ranges
 
@@ -96,11 +96,11 @@ page_chosen n now lo held ordered chosen =
 
 module _ (ring : Ring) (faces : ℕ → Face Value) (a : ℕ) (start : Face Value) (kept : RingState) (part : Part) (same : kept ≡ part.kept)
     (t : PartTies (acceptors ring) (seen faces a start) start part) where
-  none : DidTies ring faces a start kept start (nothing_done part)
-  none = did_none ring faces a start kept part t same
+  none : EffectsTie ring faces a start kept start (no_effects part)
+  none = effects_none ring faces a start kept part t same
 
   -- Fetch
-  pub fetches_ties : (from : NodeId) (lo : ℕ) → DidTies ring faces a start kept start (fetches ring part from lo)
+  pub fetches_ties : (from : NodeId) (lo : ℕ) → EffectsTie ring faces a start kept start (fetches ring part from lo)
   unfolding fetches
   fetches_ties from lo = go (nat_lt lo part.kept.trim)
     where
@@ -111,37 +111,37 @@ module _ (ring : Ring) (faces : ℕ → Face Value) (a : ℕ) (start : Face Valu
       page [] all = tt
       page (range ∷ ranges) all = said_sends ring (seen faces a start) (Some from) (body.Chosen ring.id (range ∷ ranges)) (λ r. all)
 
-      go : (b : Bool) → DidTies ring faces a start kept start (if b then tells_trim ring (Some from) part
-          else with_frames (tells_ranges ring from (ranges_page (learned_ranges (entries_from lo part.learner.held)))) (nothing_done part))
+      go : (b : Bool) → EffectsTie ring faces a start kept start (if b then tells_trim ring (Some from) part
+          else with_frames (tells_ranges ring from (ranges_page (learned_ranges (entries_from lo part.learner.held)))) (no_effects part))
       go true =
-          did_frames ring faces a start kept start (nothing_done part) (sends ring (Some from) (body.Trimmed ring.id part.kept.trim))
+          effects_frames ring faces a start kept start (no_effects part) (sends ring (Some from) (body.Trimmed ring.id part.kept.trim))
           (said_sends ring (seen faces a start) (Some from) (body.Trimmed ring.id part.kept.trim) tt) none
       go false =
-          did_frames ring faces a start kept start (nothing_done part) (tells_ranges ring from (ranges_page (learned_ranges (entries_from lo part.learner.held))))
+          effects_frames ring faces a start kept start (no_effects part) (tells_ranges ring from (ranges_page (learned_ranges (entries_from lo part.learner.held))))
           (page (ranges_page (learned_ranges (entries_from lo part.learner.held))) chosen_page) none
 
   -- Decide
   pub decided_ties : (link : Link) (lo hi left : ℕ) (value : Value) → IsRangeChosen (acceptors ring) (seen faces a start) (record { lo = lo; hi = hi; value = value })
-      → DidTies ring faces a start kept start (decided ring link part lo hi left value)
+      → EffectsTie ring faces a start kept start (decided ring link part lo hi left value)
   unfolding decided
   decided_ties link lo hi left value chosen =
-      did_learned ring faces a start kept start (passed_on ring link lo hi left value (nothing_done part)) (record { lo = lo; hi = hi; value = value }) chosen (passed left)
+      effects_learned ring faces a start kept start (passed_on ring link lo hi left value (no_effects part)) (record { lo = lo; hi = hi; value = value }) chosen (passed left)
     where
-      passed : (left : ℕ) → DidTies ring faces a start kept start (passed_on ring link lo hi left value (nothing_done part))
+      passed : (left : ℕ) → EffectsTie ring faces a start kept start (passed_on ring link lo hi left value (no_effects part))
       passed zero = none
       passed (suc left) =
-          did_frames ring faces a start kept start (nothing_done part) (sends ring (next_member ring link) (body.Decide ring.id lo hi left value))
+          effects_frames ring faces a start kept start (no_effects part) (sends ring (next_member ring link) (body.Decide ring.id lo hi left value))
           (said_sends ring (seen faces a start) (next_member ring link) (body.Decide ring.id lo hi left value) (λ r. chosen)) none
 
   -- Chosen
-  pub chosen_ties : (ranges : List Decided) → AllByRecursion (IsRangeChosen (acceptors ring) (seen faces a start)) ranges → DidTies ring faces a start kept start (chosen ring part ranges)
+  pub chosen_ties : (ranges : List Decided) → AllByRecursion (IsRangeChosen (acceptors ring) (seen faces a start)) ranges → EffectsTie ring faces a start kept start (chosen ring part ranges)
   unfolding chosen
   chosen_ties ranges all =
       let d = none.done in
       record { done = record { reached = d.reached; kept = d.kept; learner = d.learner; changes = d.changes; frames = tt; learned = all; recorded = d.recorded }; role = none.role; told = none.told }
 
   -- Refuse
-  pub refused_ties : (ballot promise : ℕ) → DidTies ring faces a start kept start (refused ring part ballot promise)
+  pub refused_ties : (ballot promise : ℕ) → EffectsTie ring faces a start kept start (refused ring part ballot promise)
   unfolding refused
   refused_ties ballot promise =
       let d = none.done in
@@ -165,17 +165,17 @@ module _ (ring : Ring) (faces : ℕ → Face Value) (a : ℕ) (seat : position_o
     (seats : (node : NodeId) (k : ℕ) → position_of ring node ≡ Some k → k < acceptors ring)
     (all : (k : ℕ) → Local (acceptors ring) faces k (faces k)) (start : Face Value) (local : Local (acceptors ring) faces a start) (kept : RingState)
     (part : Part) (same : kept ≡ part.kept) (t : PartTies (acceptors ring) (seen faces a start) start part) where
-  stays : (did : Did) → DidTies ring faces a start kept start did → After ring faces a start kept start did
-  stays did d = record { face = start; grows = Grows-refl start; ties = d }
+  stays : (effects : Effects) → EffectsTie ring faces a start kept start effects → After ring faces a start kept start effects
+  stays effects d = record { face = start; grows = Grows-refl start; ties = d }
 
-  untouched : DidTies ring faces a start kept start (nothing_done part)
+  untouched : EffectsTie ring faces a start kept start (no_effects part)
   untouched = none ring faces a start kept part same t
 
   -- Trimmed and TrimTo
   pub trimmed_ties : (link : Link) (trim : ℕ) → After ring faces a start kept start (trimmed ring link part trim)
   unfolding trimmed
   trimmed_ties link trim =
-      let first = did_trims ring faces a seat within seats all start local kept start (nothing_done part) trim untouched in
+      let first = effects_trims ring faces a seat within seats all start local kept start (no_effects part) trim untouched in
       let rest = proposes_after_ties ring faces a seat within all start local kept first.face link _ first.ties in
       record { face = rest.face; grows = Grows-trans first.grows rest.grows; ties = rest.ties }
 
@@ -188,7 +188,7 @@ module _ (ring : Ring) (faces : ℕ → Face Value) (a : ℕ) (seat : position_o
       entry = record { client = client; seq = seq; command = command }
 
       on : (hops : ℕ) → After ring faces a start kept start (passes_on ring part hops (record { client = client; seq = seq; command = command }))
-      on zero = stays _ (did_frames ring faces a start kept start (nothing_done part) (sends ring (owner_of ring (greatest_seen part)) (body.Submit ring.id 1 client seq command))
+      on zero = stays _ (effects_frames ring faces a start kept start (no_effects part) (sends ring (owner_of ring (greatest_seen part)) (body.Submit ring.id 1 client seq command))
           (said_sends ring (seen faces a start) (owner_of ring (greatest_seen part)) (body.Submit ring.id 1 client seq command) tt) untouched)
       on (suc hops) = stays _ untouched
 
@@ -208,12 +208,12 @@ module _ (ring : Ring) (faces : ℕ → Face Value) (a : ℕ) (seat : position_o
       }
 
       proposing_now : (now : Part) → now.kept ≡ part.kept → PartTies (acceptors ring) (seen faces a start) start now → After ring faces a start kept start (proposes ring link now)
-      proposing_now now e p = proposes_after_ties ring faces a seat within all start local kept start link (nothing_done now) (did_none ring faces a start kept now p (same ∙ sym e))
+      proposing_now now e p = proposes_after_ties ring faces a seat within all start local kept start link (no_effects now) (effects_none ring faces a start kept now p (same ∙ sym e))
 
       by_test : (campaign : Campaign) → CampaignTies (acceptors ring) (seen faces a start) start campaign → (b c d : Bool)
-          → After ring faces a start kept start (if b then with_line (InstanceLimit ring.own ring.id) (nothing_done part)
+          → After ring faces a start kept start (if b then with_line (InstanceLimit ring.own ring.id) (no_effects part)
           else if c then proposes ring link part
-          else if d then nothing_done part
+          else if d then no_effects part
           else proposes ring link (with_campaign (with_pending (record { client = client; seq = seq; command = command }) campaign) part))
       by_test campaign r true c d =
           let u = untouched.done in
@@ -234,7 +234,7 @@ module _ (ring : Ring) (faces : ℕ → Face Value) (a : ℕ) (seat : position_o
           leading true = by_test campaign r (nat_le END campaign.next) (is_pending (record { client = client; seq = seq; command = command }) campaign.pending) (nat_le most_pending (length campaign.pending))
 
   -- what a resend beat asks for
-  pub resends_ties : (link : Link) → DidTies ring faces a start kept start (resends ring link part)
+  pub resends_ties : (link : Link) → EffectsTie ring faces a start kept start (resends ring link part)
   unfolding resends
   resends_ties link = by_role part.coordinator.role t.role
     where
@@ -249,12 +249,12 @@ module _ (ring : Ring) (faces : ℕ → Face Value) (a : ℕ) (seat : position_o
           one true = said_sends ring (seen faces a start) (Some node) (body.Prepare ring.id ballot c) tt
           one false = tt
 
-      by_role : (role : Role) → RoleTies (acceptors ring) (seen faces a start) start role → DidTies ring faces a start kept start (resends_in ring link part role)
+      by_role : (role : Role) → RoleTies (acceptors ring) (seen faces a start) start role → EffectsTie ring faces a start kept start (resends_in ring link part role)
       by_role Idle r = untouched
       by_role (Active campaign) r =
-          did_frames ring faces a start kept start (with_frames (prepares_again ring campaign.ballot ring.acceptors campaign.covered) (nothing_done part))
+          effects_frames ring faces a start kept start (with_frames (prepares_again ring campaign.ballot ring.acceptors campaign.covered) (no_effects part))
           (accepts_again ring (next_acceptor ring link) campaign.ballot part.kept.trim campaign.outstanding) (accepted campaign.outstanding r.outstanding)
-          (did_frames ring faces a start kept start (nothing_done part) (prepares_again ring campaign.ballot ring.acceptors campaign.covered) (prepared campaign.ballot ring.acceptors campaign.covered) untouched)
+          (effects_frames ring faces a start kept start (no_effects part) (prepares_again ring campaign.ballot ring.acceptors campaign.covered) (prepared campaign.ballot ring.acceptors campaign.covered) untouched)
         where
           mine : owner (acceptors ring) campaign.ballot ≡ a
           mine = local.leads_owned (record { ballot = campaign.ballot; next = r.next }) r.leads

@@ -20,9 +20,9 @@ use Rattle.quorums.specs.Groups.{Has}
 use Rattle.ring_reach.specs.Reach.{seen}
 use Rattle.ring_reach.proofs.Reaching.{reach_one, seen_own}
 use Rattle.protocol.specs.Lines.{BallotLimit}
-use Rattle.protocol.specs.Parts.{Ring, Part, Did}
+use Rattle.protocol.specs.Parts.{Ring, Part, Effects}
 use Rattle.protocol.specs.Rings.{is_own, other_acceptors, position_of, sends, sends_each}
-use Rattle.protocol.specs.Doing.{with_part, with_campaign, with_change, with_line, nothing_done}
+use Rattle.protocol.specs.Effects.{with_part, with_campaign, with_change, with_line, no_effects}
 use Rattle.protocol.specs.Acceptor.{promises, promised_part}
 use Rattle.protocol.specs.Ballots.{covered_at_start, new_campaign, campaigns, greatest_seen, own_ballot}
 use Rattle.protocol.specs.Proposing.{proposes_after}
@@ -38,8 +38,8 @@ use Rattle.ring_safety.proofs.Deeds.{Grows-done}
 use Rattle.ring_kept.specs.Kept.{told_of, KeptTies}
 use Rattle.ring_tables.specs.Ties.{acceptors, Reports, CampaignTies, PartTies, BodySaid, IsSaid}
 use Rattle.ring_tables.proofs.More.{appended, told_on}
-use Rattle.ring_tables.specs.Done.{DoneTies, DidTies, After}
-use Rattle.ring_tables.proofs.Doing.{same_number, said_sends, did_none, did_frames, done_changed}
+use Rattle.ring_tables.specs.Done.{DoneTies, EffectsTie, After}
+use Rattle.ring_tables.proofs.Effects.{same_number, said_sends, effects_none, effects_frames, done_changed}
 use Rattle.ring_tables.proofs.Offering.{proposes_after_ties}
 
 pub said_sends_each : (ring : Ring) (now : ℕ → Face Value) (nodes : List NodeId) (b : Body) → BodySaid ring now ring.own b → AllByRecursion (IsSaid ring now) (sends_each ring nodes b)
@@ -74,7 +74,7 @@ module _ (ring : Ring) (faces : ℕ → Face Value) (a : ℕ) (seat : position_o
 
   -- ---- the deed
 
-  module _ (f : Face Value) (did : Did) (ballot : ℕ) (above : did.part.kept.promise < ballot) (owned : owner (acceptors ring) ballot ≡ a) (t : DidTies ring faces a start kept f did) where
+  module _ (f : Face Value) (effects : Effects) (ballot : ℕ) (above : effects.part.kept.promise < ballot) (owned : owner (acceptors ring) ballot ≡ a) (t : EffectsTie ring faces a start kept f effects) where
     abbrev g : Face Value
     g = done (Starts ballot END) f
 
@@ -82,31 +82,31 @@ module _ (ring : Ring) (faces : ℕ → Face Value) (a : ℕ) (seat : position_o
     own = record { ballot = ballot; low = f.trim; high = END; trim = f.trim; told = page f.votes f.trim END }
 
     may : MayStart (acceptors ring) a f ballot
-    may = let same : f.promise ≡ did.part.kept.promise = t.done.kept.promise in record { owned = owned; above = omega arith }
+    may = let same : f.promise ≡ effects.part.kept.promise = t.done.kept.promise in record { owned = owned; above = omega arith }
 
     grows : Grows f g
     grows = Grows-done (acceptors ring) faces a f (Starts ballot END) may
 
-    kept_started : KeptTies g (with_promise ballot did.part.kept)
+    kept_started : KeptTies g (with_promise ballot effects.part.kept)
     kept_started = let k = t.done.kept in record { promise = refl; trim = k.trim; votes = k.votes; ordered = k.ordered; ended = k.ended }
 
     own_said : Has (seen faces a g a).promises own
     own_said = subst (λ (z : Face Value). Has z.promises own) (sym (seen_own (acceptors ring) faces a g)) (inl refl)
 
     -- only the own position is covered past an instance from the trim on
-    only_own : (k i : ℕ) → k < acceptors ring → f.trim ≤ i → i < slice_index (covered_at_start ring did.part.kept.trim) k → (k ≡ a) × (i < END)
+    only_own : (k i : ℕ) → k < acceptors ring → f.trim ≤ i → i < slice_index (covered_at_start ring effects.part.kept.trim) k → (k ≡ a) × (i < END)
     only_own k i lt from to = elim (cases_eq k a) [
       | inl same ↦
-          let end : slice_index (covered_at_start ring did.part.kept.trim) k ≡ END =
-          ap (λ x. slice_index (covered_at_start ring did.part.kept.trim) x) same ∙ covered_own did.part.kept.trim in
+          let end : slice_index (covered_at_start ring effects.part.kept.trim) k ≡ END =
+          ap (λ x. slice_index (covered_at_start ring effects.part.kept.trim) x) same ∙ covered_own effects.part.kept.trim in
           (same, omega arith)
       | inr ne ↦
-          let other = covered_other did.part.kept.trim k lt ne in
-          let trim : f.trim ≡ did.part.kept.trim = t.done.kept.trim in
+          let other = covered_other effects.part.kept.trim k lt ne in
+          let trim : f.trim ≡ effects.part.kept.trim = t.done.kept.trim in
           absurd (omega arith)
     ]
 
-    reports : Reports (acceptors ring) (seen faces a g) f.trim ballot (covered_at_start ring did.part.kept.trim) did.part.kept.votes
+    reports : Reports (acceptors ring) (seen faces a g) f.trim ballot (covered_at_start ring effects.part.kept.trim) effects.part.kept.votes
     reports = record {
       page = λ k i. own;
       made = λ k i lt from to. subst (λ x. Has (seen faces a g x).promises own) (sym (only_own k i lt from to).0) own_said;
@@ -117,7 +117,7 @@ module _ (ring : Ring) (faces : ℕ → Face Value) (a : ℕ) (seat : position_o
           omega arith;
       reported = λ i cast from e. elim (cases_lt i END) [
         | inl under ↦
-            let end = covered_own did.part.kept.trim in
+            let end = covered_own effects.part.kept.trim in
             record {
               member = a;
               below = within;
@@ -128,9 +128,9 @@ module _ (ring : Ring) (faces : ℕ → Face Value) (a : ℕ) (seat : position_o
       ];
     }
 
-    ties : CampaignTies (acceptors ring) (seen faces a g) g (new_campaign ring ballot (with_promise ballot did.part.kept))
+    ties : CampaignTies (acceptors ring) (seen faces a g) g (new_campaign ring ballot (with_promise ballot effects.part.kept))
     ties =
-        let trim : f.trim ≡ did.part.kept.trim = t.done.kept.trim in
+        let trim : f.trim ≡ effects.part.kept.trim = t.done.kept.trim in
         record {
           next = f.trim;
           leads = refl;
@@ -138,16 +138,16 @@ module _ (ring : Ring) (faces : ℕ → Face Value) (a : ℕ) (seat : position_o
           promised = refl;
           reports = reports;
           outstanding = tt;
-          sized = length-map ring.acceptors (reach did.part.kept.trim);
+          sized = length-map ring.acceptors (reach effects.part.kept.trim);
           ended = λ k. elim (cases_lt k (acceptors ring)) [
             | inl lt ↦ elim (cases_eq k a) [
               | inl same ↦
-                  let end : slice_index (covered_at_start ring did.part.kept.trim) k ≡ END =
-                  ap (λ x. slice_index (covered_at_start ring did.part.kept.trim) x) same ∙ covered_own did.part.kept.trim in
+                  let end : slice_index (covered_at_start ring effects.part.kept.trim) k ≡ END =
+                  ap (λ x. slice_index (covered_at_start ring effects.part.kept.trim) x) same ∙ covered_own effects.part.kept.trim in
                   omega arith
-              | inr ne ↦ let other = covered_other did.part.kept.trim k lt ne in omega arith
+              | inr ne ↦ let other = covered_other effects.part.kept.trim k lt ne in omega arith
             ]
-            | inr past ↦ let none = covered_past_all did.part.kept.trim k past in omega arith
+            | inr past ↦ let none = covered_past_all effects.part.kept.trim k past in omega arith
           ];
           ordered = t.done.kept.ordered;
         }
@@ -157,30 +157,26 @@ module _ (ring : Ring) (faces : ℕ → Face Value) (a : ℕ) (seat : position_o
     started p (inl e) lt = inr (subst (λ (q : Promise Value). owner (acceptors ring) q.ballot ≡ a) (sym e) owned)
     started p (inr h) lt = inl h
 
-    abbrev changed : Did
-    changed = with_change (change.Promise ring.id ballot) (promised_part ballot did.part) did
+    abbrev changed : Effects
+    changed = with_change (change.Promise ring.id ballot) (promised_part ballot effects.part) effects
 
-    pub did_starts : After ring faces a start kept f (campaigns ring ballot (promises ring ballot did))
-    did_starts = go (ballot == did.part.kept.promise) refl
-      where
-        go : (b : Bool) → (ballot == did.part.kept.promise) ≡ b → After ring faces a start kept f (campaigns ring ballot (if b then did else changed))
-        go true e = let same : ballot ≡ did.part.kept.promise = grind (arith, nat_tests) in absurd (omega arith)
-        go false e =
-            let d : DoneTies ring faces a start kept g changed =
-            done_changed ring faces a start kept f g did (reach_one (acceptors ring) faces a f (Starts ballot END) may) grows t.done (change.Promise ring.id ballot) (promised_part ballot did.part)
-            (record { stand = ((λ r. omega arith), tt); voted = λ c h. inl h }) (rw (same_number ring.id.0) refl) refl kept_started in
-            record {
-              face = g;
-              grows = grows;
-              ties = did_frames ring faces a start kept g (with_part (with_campaign (new_campaign ring ballot changed.part.kept) changed.part) changed)
-                  (sends_each ring (other_acceptors ring) (body.Prepare ring.id ballot changed.part.kept.trim))
-                  (said_sends_each ring (seen faces a g) (other_acceptors ring) (body.Prepare ring.id ballot changed.part.kept.trim) tt)
-                  (record {
-                    done = record { reached = d.reached; kept = d.kept; learner = d.learner; changes = d.changes; frames = d.frames; learned = d.learned; recorded = d.recorded };
-                    role = ties;
-                    told = told_on ring a start f g did.frames started t.told;
-                  });
-            }
+    pub effects_starts : After ring faces a start kept f (campaigns ring ballot (promises ring ballot effects))
+    effects_starts =
+        let d : DoneTies ring faces a start kept g changed =
+        done_changed ring faces a start kept f g effects (reach_one (acceptors ring) faces a f (Starts ballot END) may) grows t.done (change.Promise ring.id ballot) (promised_part ballot effects.part)
+        (record { stand = ((λ r. omega arith), tt); voted = λ c h. inl h }) (rw (same_number ring.id.0) refl) refl kept_started in
+        record {
+          face = g;
+          grows = grows;
+          ties = effects_frames ring faces a start kept g (with_part (with_campaign (new_campaign ring ballot changed.part.kept) changed.part) changed)
+              (sends_each ring (other_acceptors ring) (body.Prepare ring.id ballot changed.part.kept.trim))
+              (said_sends_each ring (seen faces a g) (other_acceptors ring) (body.Prepare ring.id ballot changed.part.kept.trim) tt)
+              (record {
+                done = record { reached = d.reached; kept = d.kept; learner = d.learner; changes = d.changes; frames = d.frames; learned = d.learned; recorded = d.recorded };
+                role = ties;
+                told = told_on ring a start f g effects.frames started t.told;
+              });
+        }
 
   -- ---- Lead
 
@@ -189,11 +185,11 @@ module _ (ring : Ring) (faces : ℕ → Face Value) (a : ℕ) (seat : position_o
   unfolding leads
   leads_ties link part same t = subst (λ o. After ring faces a start kept start (starts_at ring link part o)) (sym seat) (by_limit (nat_le (2 ^ 48) (own_ballot ring part a)))
     where
-      none : DidTies ring faces a start kept start (nothing_done part)
-      none = did_none ring faces a start kept part t same
+      none : EffectsTie ring faces a start kept start (no_effects part)
+      none = effects_none ring faces a start kept part t same
 
-      by_limit : (b : Bool) → After ring faces a start kept start (if b then with_line (BallotLimit ring.own ring.id) (nothing_done part)
-          else proposes_after ring link (campaigns ring (own_ballot ring part a) (promises ring (own_ballot ring part a) (nothing_done part))))
+      by_limit : (b : Bool) → After ring faces a start kept start (if b then with_line (BallotLimit ring.own ring.id) (no_effects part)
+          else proposes_after ring link (campaigns ring (own_ballot ring part a) (promises ring (own_ballot ring part a) (no_effects part))))
       by_limit true =
           let d = none.done in
           record {
@@ -204,6 +200,6 @@ module _ (ring : Ring) (faces : ℕ → Face Value) (a : ℕ) (seat : position_o
       by_limit false =
           let least = is_least (greatest_seen part) (acceptors ring) a within in
           let up = least.above in
-          let s = did_starts start (nothing_done part) (own_ballot ring part a) (omega arith) least.leaves none in
-          let rest = proposes_after_ties ring faces a seat within all start local kept s.face link (campaigns ring (own_ballot ring part a) (promises ring (own_ballot ring part a) (nothing_done part))) s.ties in
+          let s = effects_starts start (no_effects part) (own_ballot ring part a) (omega arith) least.leaves none in
+          let rest = proposes_after_ties ring faces a seat within all start local kept s.face link (campaigns ring (own_ballot ring part a) (promises ring (own_ballot ring part a) (no_effects part))) s.ties in
           record { face = rest.face; grows = Grows-trans s.grows rest.grows; ties = rest.ties }

@@ -8,7 +8,7 @@ use Rattle.frames.specs.declared.body.Body.{Body}
 use Rattle.frames.specs.declared.body.Body.TheVariants as body
 use Rattle.frames.specs.declared.sent.Sent.{Sent}
 use Rattle.beside_rings.specs.Beside.{IsNoLearn}
-use Rattle.protocol.specs.Parts.{Ring, Did}
+use Rattle.protocol.specs.Parts.{Ring, Effects}
 
 -- a change of this ring
 abbrev pub IsChangeOf : RingId → Change → Type 0
@@ -28,8 +28,8 @@ IsBodyOf id other = Unit {0}
 abbrev pub IsSentOf : RingId → Sent → Type 0
 IsSentOf id sent = IsBodyOf id sent.frame.body
 
-pub record IsOf (ring : Ring) (did : Did) : Type 0 where
-  pub changes : AllByRecursion (IsChangeOf ring.id) did.changes
-  pub frames : AllByRecursion (IsSentOf ring.id) did.frames
+pub record IsOf (ring : Ring) (effects : Effects) : Type 0 where
+  pub changes : AllByRecursion (IsChangeOf ring.id) effects.changes
+  pub frames : AllByRecursion (IsSentOf ring.id) effects.frames
   -- what is learned is printed later
-  pub lines : AllByRecursion IsNoLearn did.lines
+  pub lines : AllByRecursion IsNoLearn effects.lines

@@ -2,16 +2,16 @@
 use Rattle.std.specs.Prelude.{◌≡◌, ℕ, true}
 use Rattle.mrp_types.specs.declared.value.Value.{Value}
 use Rattle.vote_state.specs.declared.ring.RingState.{RingState}
-use Rattle.protocol.specs.Parts.{Ring, Part, Did}
+use Rattle.protocol.specs.Parts.{Ring, Part, Effects}
 use Rattle.protocol.specs.Rings.{is_acceptor}
 use Rattle.ring_tables.specs.Settled.{RoleSettled, PartFine}
 use Rattle.ring_tables.specs.Done.{After, AtAcceptor}
 use Rattle.ring_safety.specs.Faces.{Face}
 
 -- what a rule makes of a part: the face goes on, and the part is settled again
-pub record Ruled (ring : Ring) (faces : ℕ → Face Value) (a : ℕ) (f : Face Value) (kept : RingState) (did : Did) : Type 0 where
-  pub after : After ring faces a f kept f did
-  pub fine : PartFine ring did.part
+pub record Ruled (ring : Ring) (faces : ℕ → Face Value) (a : ℕ) (f : Face Value) (kept : RingState) (effects : Effects) : Type 0 where
+  pub after : After ring faces a f kept f effects
+  pub fine : PartFine ring effects.part
 
 -- at an acceptor whose coordinator is settled
 pub record AtSettled (ring : Ring) (faces : ℕ → Face Value) (a : ℕ) (f : Face Value) (part : Part) : Type 0 where

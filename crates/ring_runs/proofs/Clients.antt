@@ -18,13 +18,13 @@ use Rattle.frames.specs.declared.body.Body.{Body}
 use Rattle.frames.specs.declared.body.Body.TheVariants as bodies
 use Rattle.ring_safety.specs.Faces.{Face}
 use Rattle.protocol.specs.Parts.{Ring}
-use Rattle.protocol.specs.Client.{Asked, ClientView, ClientDid, asks, asks_on, asks_beside, client_ticks, ticked, ticks_for, client_takes, replied, replied_for, replied_by, replied_with, gathered, answers, idles, sends_it, submit_to, submits, acceptor_at, acceptors_of, asked_first, has_part, with_part, have_all, fits}
+use Rattle.protocol.specs.Client.{Asked, ClientView, ClientEffects, asks, asks_on, asks_beside, client_ticks, ticked, ticks_for, client_takes, replied, replied_for, replied_by, replied_with, gathered, answers, idles, sends_it, submit_to, submits, acceptor_at, acceptors_of, asked_first, has_part, with_part, have_all, fits}
 use Rattle.ring_tables.specs.Ties.{IsSaid, IsTold}
 
 -- frames of clients, and lines that tell of no learning
-pub record IsQuiet (ring : Ring) (now : ℕ → Face Value) (did : ClientDid) : Type 0 where
-  pub frames : AllByRecursion (IsSaid ring now) did.frames
-  pub lines : AllByRecursion (IsTold ring now) did.lines
+pub record IsQuiet (ring : Ring) (now : ℕ → Face Value) (effects : ClientEffects) : Type 0 where
+  pub frames : AllByRecursion (IsSaid ring now) effects.frames
+  pub lines : AllByRecursion (IsTold ring now) effects.lines
 
 module _ (ring : Ring) (now : ℕ → Face Value) (config : Config) where
   submits_said : (c : ClientView) (a : Asked) → AllByRecursion (IsSaid ring now) (submits config c a)

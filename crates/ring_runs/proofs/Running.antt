@@ -19,7 +19,7 @@ use Rattle.vote_state.specs.declared.ring.RingState.{RingState}
 use Rattle.vote_state.specs.declared.change.Change.TheVariants as change
 use Rattle.vote_state.specs.State.{State, ring_at, no_votes, nothing_kept}
 use Rattle.vote_journal.specs.Journal.{Journal}
-use Rattle.checkpoint.specs.Checks.{Checks}
+use Rattle.checkpoint.specs.Checkpoints.{Checkpoints}
 use Rattle.ring_safety.specs.Faces.{Proposal, Face, blank, Promise, owner}
 use Rattle.ring_safety.specs.Invariant.{Sound}
 use Rattle.ring_safety.specs.Rules.{Grows}
@@ -32,7 +32,7 @@ use Rattle.ring_reach.specs.Reach.{seen}
 use Rattle.ring_reach.proofs.Lifting.{node_there, node_elsewhere, has_stepped, was_stopped}
 use Rattle.ring_reach.proofs.Silence.{silently}
 use Rattle.ring_kept.specs.Kept.{KeptTies}
-use Rattle.protocol.specs.Client.{ClientDid, asks, client_ticks, client_takes}
+use Rattle.protocol.specs.Client.{ClientEffects, asks, client_ticks, client_takes}
 use Rattle.protocol.specs.Lines.{Line, Cause}
 use Rattle.protocol.specs.Lines as line
 use Rattle.protocol.specs.Node.{View, Event, Ticks, Takes, Leads, Stepped, Work, Nothing}
@@ -46,7 +46,7 @@ use Rattle.ring_steps.proofs.Ending.{step_stands}
 use Rattle.ring_tables.proofs.More.{appended, mapped, all_said_more, all_told_more, all_recorded_more, none_recorded}
 use Rattle.ring_steps.proofs.Opened.{opened_stands}
 use Rattle.bare_world.specs.Runs.{MayCome, MayOpenAt, MayLeaveAt, MayHappen, MayRun}
-use Rattle.bare_world.specs.Worlds.{Possible, Host, Up, Down, World, Happening, Steps, Breaks, Crashes, Opens, Fails, Asks, ClientTicks, ClientTakes, Shows, Lists, with_host, with_client, with_frames, with_lines, with_work, with_read, possible_of, chosen, goes_on, goes_down, stepped, client_does, state_of_host, nothing}
+use Rattle.bare_world.specs.Worlds.{Possible, Host, Up, Down, World, Happening, Steps, Breaks, Crashes, Opens, Fails, Asks, ClientTicks, ClientTakes, Shows, Lists, with_host, with_client, with_frames, with_lines, with_work, with_read, possible_of, chosen, after_step, goes_down, stepped, client_step, state_of_host, nothing}
 use Rattle.bare_world.specs.Worlds as bare
 use Rattle.ring_runs.specs.Seats.{acceptors, nobody, seat, IsDeployed}
 use Rattle.ring_runs.specs.Histories.{History, at_first, is_done, is_stopped, by_step, by_break, by_crash, found, by_restart, by_opening, goes, history}
@@ -154,54 +154,54 @@ module _ (config : Config) (table : RingTable) (d : IsDeployed config table) (w 
   -- ---- a step that ends well
 
   -- the machine's world once the node has stepped, and what its view, frames and lines then stand for
-  module _ (id : NodeId) (before : List Line) (did : Stepped) (quiet : (now : ℕ → Face Value) → AllByRecursion (IsTold (ring_of config id table) now) before)
-      (s : StepStands (ring_of config id table) (durables w) (seat table id) (w (seat table id)).durable did) where
+  module _ (id : NodeId) (before : List Line) (made : Stepped) (quiet : (now : ℕ → Face Value) → AllByRecursion (IsTold (ring_of config id table) now) before)
+      (s : StepStands (ring_of config id table) (durables w) (seat table id) (w (seat table id)).durable made) where
     event : HasStepped (acceptors table) w (seat table id) s.face
     event = has_stepped (acceptors table) w sound (seat table id) s.face s.reached
 
     abbrev done_then : List (NodeId × Work)
-    done_then = h.done ++ (id, did.work) ∷ []
+    done_then = h.done ++ (id, made.work) ∷ []
 
-    cast_then : (c : Proposal Value) → Has (durables (happens event.event w) (seat table id)).casts c → IsDoneBy table (h.done ++ (id, did.work) ∷ []) id c
+    cast_then : (c : Proposal Value) → Has (durables (happens event.event w) (seat table id)).casts c → IsDoneBy table (h.done ++ (id, made.work) ∷ []) id c
     cast_then c has = go (s.recorded.voted c (subst (λ (f : Face Value). Has f.casts c) event.durable has))
       where
-        go : Has (w (seat table id)).durable.casts c ⊎ IsVotedIn table.id (changes_in did.work) c → IsDoneBy table (h.done ++ (id, did.work) ∷ []) id c
-        go (inl old) = done_more table h.done ((id, did.work) ∷ []) id c (t.cast id c old)
-        go (inr v) = record { work = did.work; there = has_last h.done (id, did.work); voted = v }
+        go : Has (w (seat table id)).durable.casts c ⊎ IsVotedIn table.id (changes_in made.work) c → IsDoneBy table (h.done ++ (id, made.work) ∷ []) id c
+        go (inl old) = done_more table h.done ((id, made.work) ∷ []) id c (t.cast id c old)
+        go (inr v) = record { work = made.work; there = has_last h.done (id, made.work); voted = v }
 
     told_then : (p : Promise Value) → Has (durables (happens event.event w) (seat table id)).promises p → p.low < p.high
-        → (owner (acceptors table) p.ballot ≡ seat table id) ⊎ IsToldIn (ring_of config id table) (h.world.frames ++ did.frames) p
+        → (owner (acceptors table) p.ballot ≡ seat table id) ⊎ IsToldIn (ring_of config id table) (h.world.frames ++ made.frames) p
     told_then p has lt = go (s.told p (subst (λ (f : Face Value). Has f.promises p) event.durable has) lt)
       where
-        go : Has (w (seat table id)).durable.promises p ⊎ ((owner (acceptors table) p.ballot ≡ seat table id) ⊎ IsToldIn (ring_of config id table) did.frames p)
-            → (owner (acceptors table) p.ballot ≡ seat table id) ⊎ IsToldIn (ring_of config id table) (h.world.frames ++ did.frames) p
-        go (inl old) = told_more (ring_of config id table) (owner (acceptors table) p.ballot ≡ seat table id) h.world.frames (h.world.frames ++ did.frames) p
-            (λ x there. has_first h.world.frames did.frames x there) (t.told id p old lt)
-        go (inr new) = told_more (ring_of config id table) (owner (acceptors table) p.ballot ≡ seat table id) did.frames (h.world.frames ++ did.frames) p
-            (λ x there. has_second h.world.frames did.frames x there) new
+        go : Has (w (seat table id)).durable.promises p ⊎ ((owner (acceptors table) p.ballot ≡ seat table id) ⊎ IsToldIn (ring_of config id table) made.frames p)
+            → (owner (acceptors table) p.ballot ≡ seat table id) ⊎ IsToldIn (ring_of config id table) (h.world.frames ++ made.frames) p
+        go (inl old) = told_more (ring_of config id table) (owner (acceptors table) p.ballot ≡ seat table id) h.world.frames (h.world.frames ++ made.frames) p
+            (λ x there. has_first h.world.frames made.frames x there) (t.told id p old lt)
+        go (inr new) = told_more (ring_of config id table) (owner (acceptors table) p.ballot ≡ seat table id) made.frames (h.world.frames ++ made.frames) p
+            (λ x there. has_second h.world.frames made.frames x there) new
 
-    went : WorldStands config table (happens event.event w) (record { world = goes_on id before did h.world; stopped = h.stopped; done = h.done ++ (id, did.work) ∷ [] })
+    went : WorldStands config table (happens event.event w) (record { world = after_step id before made h.world; stopped = h.stopped; done = h.done ++ (id, made.work) ∷ [] })
     went =
-        let own : ViewStands (ring_of config id table) (durables (happens event.event w)) (happens event.event w (seat table id)).durable did.view =
-        subst (λ (f : Face Value). ViewStands (ring_of config id table) (durables (happens event.event w)) f did.view) (sym event.durable)
-        (view_more (ring_of config id table) (seen (durables w) (seat table id) s.face) (durables (happens event.event w)) event.seen_there s.face did.view s.stands) in
-        more_lines config table (happens event.event w) (record { world = with_frames did.frames (with_host id (Up did.view) h.world); stopped = h.stopped; done = h.done ++ (id, did.work) ∷ [] })
-        (before ++ did.lines)
-        (all_told config table d id nobody (durables (happens event.event w)) (before ++ did.lines)
-        (appended (IsTold (ring_of config id table) (durables (happens event.event w))) before did.lines (quiet (durables (happens event.event w)))
-        (all_told_more (ring_of config id table) (seen (durables w) (seat table id) s.face) (durables (happens event.event w)) event.seen_there did.lines s.lines)))
-        (world_after id (happens event.event w) event.others event.more (Up did.view) h.stopped (λ other ne. refl) own (h.done ++ (id, did.work) ∷ [])
-        (λ e has. has_first h.done ((id, did.work) ∷ []) e has)
-        (appended (WorkStands table (happens event.event w)) h.done ((id, did.work) ∷ []) (done_still (happens event.event w) event.more)
-        (subst (λ (f : Face Value). AllByRecursion (IsRecorded table.id f) (changes_in did.work)) (sym event.durable) s.recorded.stand, tt))
-        cast_then (h.world.frames ++ did.frames) (λ x there. has_first h.world.frames did.frames x there)
-        (appended (IsSaid (ring_of config nobody table) (durables (happens event.event w))) h.world.frames did.frames
+        let own : ViewStands (ring_of config id table) (durables (happens event.event w)) (happens event.event w (seat table id)).durable made.view =
+        subst (λ (f : Face Value). ViewStands (ring_of config id table) (durables (happens event.event w)) f made.view) (sym event.durable)
+        (view_more (ring_of config id table) (seen (durables w) (seat table id) s.face) (durables (happens event.event w)) event.seen_there s.face made.view s.stands) in
+        more_lines config table (happens event.event w) (record { world = with_frames made.frames (with_host id (Up made.view) h.world); stopped = h.stopped; done = h.done ++ (id, made.work) ∷ [] })
+        (before ++ made.lines)
+        (all_told config table d id nobody (durables (happens event.event w)) (before ++ made.lines)
+        (appended (IsTold (ring_of config id table) (durables (happens event.event w))) before made.lines (quiet (durables (happens event.event w)))
+        (all_told_more (ring_of config id table) (seen (durables w) (seat table id) s.face) (durables (happens event.event w)) event.seen_there made.lines s.lines)))
+        (world_after id (happens event.event w) event.others event.more (Up made.view) h.stopped (λ other ne. refl) own (h.done ++ (id, made.work) ∷ [])
+        (λ e has. has_first h.done ((id, made.work) ∷ []) e has)
+        (appended (WorkStands table (happens event.event w)) h.done ((id, made.work) ∷ []) (done_still (happens event.event w) event.more)
+        (subst (λ (f : Face Value). AllByRecursion (IsRecorded table.id f) (changes_in made.work)) (sym event.durable) s.recorded.stand, tt))
+        cast_then (h.world.frames ++ made.frames) (λ x there. has_first h.world.frames made.frames x there)
+        (appended (IsSaid (ring_of config nobody table) (durables (happens event.event w))) h.world.frames made.frames
         (all_said_more (ring_of config nobody table) (durables w) (durables (happens event.event w)) event.more h.world.frames t.frames)
-        (all_said config table d id nobody (durables (happens event.event w)) did.frames
-        (all_said_more (ring_of config id table) (seen (durables w) (seat table id) s.face) (durables (happens event.event w)) event.seen_there did.frames s.frames)))
+        (all_said config table d id nobody (durables (happens event.event w)) made.frames
+        (all_said_more (ring_of config id table) (seen (durables w) (seat table id) s.face) (durables (happens event.event w)) event.seen_there made.frames s.frames)))
         told_then (λ c has. inl (subst (λ (f : Face Value). Has f.casts c) (event.pending ∙ sym event.durable) has)))
 
-    pub goes_well : Tied config table w (record { world = goes_on id before did h.world; stopped = h.stopped; done = h.done ++ (id, did.work) ∷ [] })
+    pub goes_well : Tied config table w (record { world = after_step id before made h.world; stopped = h.stopped; done = h.done ++ (id, made.work) ∷ [] })
     goes_well = record {
       machine_world = happens event.event w;
       later = later_one (acceptors table) w event.event event.can;
@@ -209,13 +209,13 @@ module _ (config : Config) (table : RingTable) (d : IsDeployed config table) (w 
       stands = went;
     }
 
-    pub steps_well : Tied config table w (record { world = with_work id did.work (goes_on id before did h.world); stopped = h.stopped; done = h.done ++ (id, did.work) ∷ [] })
+    pub steps_well : Tied config table w (record { world = with_work id made.work (after_step id before made h.world); stopped = h.stopped; done = h.done ++ (id, made.work) ∷ [] })
     steps_well = record {
       machine_world = happens event.event w;
       later = later_one (acceptors table) w event.event event.can;
       sound = Sound-happens (acceptors table) w sound event.event event.can;
-      stands = more_work config table (happens event.event w) (record { world = goes_on id before did h.world; stopped = h.stopped; done = h.done ++ (id, did.work) ∷ [] }) id did.work
-          (has_last h.done (id, did.work)) went;
+      stands = more_work config table (happens event.event w) (record { world = after_step id before made h.world; stopped = h.stopped; done = h.done ++ (id, made.work) ∷ [] }) id made.work
+          (has_last h.done (id, made.work)) went;
     }
 
   -- ---- a node that goes down
@@ -238,30 +238,30 @@ module _ (config : Config) (table : RingTable) (d : IsDeployed config table) (w 
         more_lines config table late (is_stopped id work (record h { world = with_host id (Down durable pending) h.world })) (line.Down id cause ∷ []) (tt, tt) down_after
 
   -- a step that a failure stops
-  pub breaks : (id : NodeId) (view : View) → ViewStands (ring_of config id table) (durables w) (w (seat table id)).durable view → (did : Stepped)
-      → StepStands (ring_of config id table) (durables w) (seat table id) (w (seat table id)).durable did → (cause : Cause)
-      → Tied config table w (is_stopped id did.work (record h { world = goes_down id cause (possible_of view) (possible_of did.view) h.world }))
-  breaks id view v did s cause =
+  pub breaks : (id : NodeId) (view : View) → ViewStands (ring_of config id table) (durables w) (w (seat table id)).durable view → (made : Stepped)
+      → StepStands (ring_of config id table) (durables w) (seat table id) (w (seat table id)).durable made → (cause : Cause)
+      → Tied config table w (is_stopped id made.work (record h { world = goes_down id cause (possible_of view) (possible_of made.view) h.world }))
+  breaks id view v made s cause =
       let q : Silently (acceptors table) (durables w) (seat table id) (w (seat table id)).durable s.face =
       silently (acceptors table) (durables w) (seat table id) sound.durable (w (seat table id)).durable (sound.durable (seat table id)) s.face s.reached in
       let g : Face Value = with_promises q.promises s.face in
       let e : WasStopped (acceptors table) w (seat table id) (with_promises q.promises s.face) =
       was_stopped (acceptors table) w sound (seat table id) (with_promises q.promises s.face) q.reached in
-      let made : AreRecorded table.id (w (seat table id)).durable (with_promises q.promises s.face) (changes_in did.work) = record {
-        stand = mapped (IsRecorded table.id s.face) (IsRecorded table.id (with_promises q.promises s.face)) (still_recorded table.id s.face q.promises) (changes_in did.work) s.recorded.stand;
+      let recorded : AreRecorded table.id (w (seat table id)).durable (with_promises q.promises s.face) (changes_in made.work) = record {
+        stand = mapped (IsRecorded table.id s.face) (IsRecorded table.id (with_promises q.promises s.face)) (still_recorded table.id s.face q.promises) (changes_in made.work) s.recorded.stand;
         voted = s.recorded.voted;
       } in
-      let k : KeptTies s.face (ring_at did.view.journal.state table.id) = s.stands.kept in
-      let ties : KeptTies (with_promises q.promises s.face) (ring_at did.view.journal.state table.id) =
+      let k : KeptTies s.face (ring_at made.view.journal.state table.id) = s.stands.kept in
+      let ties : KeptTies (with_promises q.promises s.face) (ring_at made.view.journal.state table.id) =
       record { promise = k.promise; trim = k.trim; votes = k.votes; ordered = k.ordered; ended = k.ended } in
-      let stood : DownStands table (seat table id) (record { durable = (w (seat table id)).durable; pending = with_promises q.promises s.face }) did.work view.journal.state did.view.journal.state =
-      record { durable_rings = v.rings; pending_rings = s.stands.rings; durable_ties = v.kept; pending_ties = ties; made = made; silent = q.new } in
+      let stood : DownStands table (seat table id) (record { durable = (w (seat table id)).durable; pending = with_promises q.promises s.face }) made.work view.journal.state made.view.journal.state =
+      record { durable_rings = v.rings; pending_rings = s.stands.rings; durable_ties = v.kept; pending_ties = ties; made = recorded; silent = q.new } in
       record {
         machine_world = happens e.event w;
         later = later_one (acceptors table) w e.event e.can;
         sound = Sound-happens (acceptors table) w sound e.event e.can;
-        stands = says_down id (happens e.event w) e.others (λ k. Grows-of_eq (sym (e.durable k))) (possible_of view) (possible_of did.view) did.work
-            (subst (λ (x : machine.Node Value). DownStands table (seat table id) x did.work view.journal.state did.view.journal.state)
+        stands = says_down id (happens e.event w) e.others (λ k. Grows-of_eq (sym (e.durable k))) (possible_of view) (possible_of made.view) made.work
+            (subst (λ (x : machine.Node Value). DownStands table (seat table id) x made.work view.journal.state made.view.journal.state)
             (same_node (happens e.event w (seat table id)) (w (seat table id)).durable (with_promises q.promises s.face) (e.durable (seat table id)) e.pending) stood)
             (λ c has. subst (λ (f : Face Value). Has f.casts c) (e.durable (seat table id)) has)
             (λ p has. subst (λ (f : Face Value). Has f.promises p) (e.durable (seat table id)) has) cause;
@@ -381,21 +381,21 @@ module _ (config : Config) (table : RingTable) (d : IsDeployed config table) (fr
     read_now = read_in (acceptors table) (durables t.machine_world) (seat table id) (durables t.machine_world (seat table id)) (ring_at stood.state table.id)
         (t.sound.durable (seat table id)) down.durable_ties
 
-    pub opens_well : (journal : Journal) (checks : Checks) → journal.state.rings ≡ stood.state.rings
-        → Tied config table from (record (is_done id (opened config id journal checks).work h) {
-          world = with_read id journal.state (goes_on id (line.Up id journal.state.epoch ∷ []) (opened config id journal checks) world);
+    pub opens_well : (journal : Journal) (checkpoints : Checkpoints) → journal.state.rings ≡ stood.state.rings
+        → Tied config table from (record (is_done id (opened config id journal checkpoints).work h) {
+          world = with_read id journal.state (after_step id (line.Up id journal.state.epoch ∷ []) (opened config id journal checkpoints) world);
         })
-    opens_well journal checks same =
+    opens_well journal checkpoints same =
         let put : History = record h { world = with_host id (Down stood stood) world } in
-        let s : StepStands (ring_of config id table) (durables t.machine_world) (seat table id) (t.machine_world (seat table id)).durable (opened config id journal checks) =
-        opened_stands config id table d.only (durables t.machine_world) (seat table id) (t.machine_world (seat table id)).durable journal checks
+        let s : StepStands (ring_of config id table) (durables t.machine_world) (seat table id) (t.machine_world (seat table id)).durable (opened config id journal checkpoints) =
+        opened_stands config id table d.only (durables t.machine_world) (seat table id) (t.machine_world (seat table id)).durable journal checkpoints
         (subst (λ (r : List RingState). table.id.0 < length r) (sym same) down.durable_rings)
         (kept_rings (t.machine_world (seat table id)).durable stood.state journal.state same down.durable_ties) in
-        let g : Tied config table t.machine_world (is_done id (opened config id journal checks).work (record h {
-          world = goes_on id (line.Up id journal.state.epoch ∷ []) (opened config id journal checks) (with_host id (Down stood stood) world);
+        let g : Tied config table t.machine_world (is_done id (opened config id journal checkpoints).work (record h {
+          world = after_step id (line.Up id journal.state.epoch ∷ []) (opened config id journal checkpoints) (with_host id (Down stood stood) world);
         })) =
         goes_well config table d t.machine_world t.sound (record h { world = with_host id (Down stood stood) world }) t.stands id (line.Up id journal.state.epoch ∷ [])
-        (opened config id journal checks) (λ now. (tt, tt)) s in
+        (opened config id journal checkpoints) (λ now. (tt, tt)) s in
         let read : ReadStands table g.machine_world (id, journal.state) =
         subst (λ (r : List RingState). IsReadIn (durables g.machine_world (seat table id)) (slice_index_or r table.id.0 no_votes)) (sym same)
         (IsReadIn-more (durables t.machine_world (seat table id)) (durables g.machine_world (seat table id)) (ring_at stood.state table.id)
@@ -405,9 +405,9 @@ module _ (config : Config) (table : RingTable) (d : IsDeployed config table) (fr
           later = later_both (acceptors table) from t.machine_world g.machine_world t.later g.later;
           sound = g.sound;
           stands = more_read config table g.machine_world
-              (is_done id (opened config id journal checks).work (record h { world = goes_on id (line.Up id journal.state.epoch ∷ []) (opened config id journal checks) world })) id journal.state read
+              (is_done id (opened config id journal checkpoints).work (record h { world = after_step id (line.Up id journal.state.epoch ∷ []) (opened config id journal checkpoints) world })) id journal.state read
               (record {
-                hosts = again id (Down stood stood) (Up (opened config id journal checks).view) world h.stopped g.machine_world g.stands.hosts;
+                hosts = again id (Down stood stood) (Up (opened config id journal checkpoints).view) world h.stopped g.machine_world g.stands.hosts;
                 frames = g.stands.frames;
                 lines = g.stands.lines;
                 done = g.stands.done;
@@ -453,14 +453,14 @@ module _ (config : Config) (table : RingTable) (d : IsDeployed config table) (fr
 
   -- ---- clients
 
-  client_does_quiet : (h : History) → Tied config table from h → (id : ClientId) (did : ClientDid) → ((now : ℕ → Face Value) → IsQuiet (ring_of config nobody table) now did)
-      → Tied config table from (record h { world = client_does id did h.world })
-  client_does_quiet h t id did quiet = record {
+  client_step_quiet : (h : History) → Tied config table from h → (id : ClientId) (made : ClientEffects) → ((now : ℕ → Face Value) → IsQuiet (ring_of config nobody table) now made)
+      → Tied config table from (record h { world = client_step id made h.world })
+  client_step_quiet h t id made quiet = record {
     machine_world = t.machine_world;
     later = t.later;
     sound = t.sound;
-    stands = more_lines config table t.machine_world (record h { world = with_frames did.frames (with_client id did.client h.world) }) did.lines (quiet (durables t.machine_world)).lines
-        (more_frames config table t.machine_world (record h { world = with_client id did.client h.world }) did.frames (quiet (durables t.machine_world)).frames
+    stands = more_lines config table t.machine_world (record h { world = with_frames made.frames (with_client id made.client h.world) }) made.lines (quiet (durables t.machine_world)).lines
+        (more_frames config table t.machine_world (record h { world = with_client id made.client h.world }) made.frames (quiet (durables t.machine_world)).frames
         (record { hosts = s.hosts; frames = s.frames; lines = s.lines; done = s.done; cast = s.cast; beyond = s.beyond; told = s.told; works = s.works; read = s.read }));
   }
     where
@@ -521,13 +521,13 @@ module _ (config : Config) (table : RingTable) (d : IsDeployed config table) (fr
       go (Up view) s =
           since config table from t.machine_world (is_stopped id Nothing (record h { world = goes_down id cause (possible_of view) (possible_of view) h.world })) t.later
           (crashes config table d t.machine_world t.sound h t.stands id view s cause)
-  tied_happens h t (Opens id after journal checks) may = go (h.world.hosts id.0) (t.stands.hosts id) may
+  tied_happens h t (Opens id after journal checkpoints) may = go (h.world.hosts id.0) (t.stands.hosts id) may
     where
-      go : (host : Host) → HostStands config table t.machine_world id (h.stopped id.0) host → MayOpenAt config id after journal checks host
-          → Tied config table from (record (by_opening config id after journal checks host h) { world = bare.opens_as config id journal checks host h.world })
+      go : (host : Host) → HostStands config table t.machine_world id (h.stopped id.0) host → MayOpenAt config id after journal checkpoints host
+          → Tied config table from (record (by_opening config id after journal checkpoints host h) { world = bare.opens_as config id journal checkpoints host h.world })
       go (Up view) s opens = t
       go (Down durable pending) s opens =
-          opens_well id (chosen after durable pending) h.world (found id after h) (chosen_now h t id after durable pending s) journal checks opens.rings
+          opens_well id (chosen after durable pending) h.world (found id after h) (chosen_now h t id after durable pending s) journal checkpoints opens.rings
   tied_happens h t (Fails id after left cause) may = go (h.world.hosts id.0) (t.stands.hosts id) may.1
     where
       go : (host : Host) → HostStands config table t.machine_world id (h.stopped id.0) host → MayLeaveAt after left host
@@ -536,11 +536,11 @@ module _ (config : Config) (table : RingTable) (d : IsDeployed config table) (fr
       go (Down durable pending) s leaves =
           fails_open id (chosen after durable pending) h.world (found id after h) (chosen_now h t id after durable pending s) left cause leaves.rings
   tied_happens h t (Asks id command) may =
-      client_does_quiet h t id (asks config (h.world.clients id.0) command) (λ now. asks_quiet (ring_of config nobody table) now config (h.world.clients id.0) command)
+      client_step_quiet h t id (asks config (h.world.clients id.0) command) (λ now. asks_quiet (ring_of config nobody table) now config (h.world.clients id.0) command)
   tied_happens h t (ClientTicks id) may =
-      client_does_quiet h t id (client_ticks config (h.world.clients id.0)) (λ now. ticks_quiet (ring_of config nobody table) now config (h.world.clients id.0))
+      client_step_quiet h t id (client_ticks config (h.world.clients id.0)) (λ now. ticks_quiet (ring_of config nobody table) now config (h.world.clients id.0))
   tied_happens h t (ClientTakes id body) may =
-      client_does_quiet h t id (client_takes config (h.world.clients id.0) body) (λ now. takes_quiet (ring_of config nobody table) now config (h.world.clients id.0) body)
+      client_step_quiet h t id (client_takes config (h.world.clients id.0) body) (λ now. takes_quiet (ring_of config nobody table) now config (h.world.clients id.0) body)
   tied_happens h t (Shows id) may = prints_quiet h t (line.State id (state_of_host (h.world.hosts id.0))) (λ now. tt)
   tied_happens h t (Lists number shown) may = prints_quiet h t (line.Frame number shown) (λ now. tt)
 

@@ -4,7 +4,7 @@ use Rattle.mrp_types.specs.declared.id.NodeId.{NodeId}
 use Rattle.mrp_config.specs.Config.{Config}
 use Rattle.protocol.specs.Node.{Event, Work, Nothing}
 use Rattle.vote_journal.specs.Journal.{Journal}
-use Rattle.checkpoint.specs.Checks.{Checks}
+use Rattle.checkpoint.specs.Checkpoints.{Checkpoints}
 use Rattle.protocol.specs.Opening.{opened}
 use Rattle.protocol.specs.Step.{step}
 use Rattle.bare_world.specs.Worlds.{Host, Up, Down, World, Happening, Steps, Breaks, Crashes, Opens, Fails, happens, nothing}
@@ -48,15 +48,15 @@ abbrev pub by_restart : NodeId → Bool → Host → History → History
 by_restart id after (Up view) h = h
 by_restart id after (Down durable pending) h = found id after h
 
-abbrev pub by_opening : Config → NodeId → Bool → Journal → Checks → Host → History → History
-by_opening config id after journal checks (Up view) h = h
-by_opening config id after journal checks (Down durable pending) h = is_done id (opened config id journal checks).work (found id after h)
+abbrev pub by_opening : Config → NodeId → Bool → Journal → Checkpoints → Host → History → History
+by_opening config id after journal checkpoints (Up view) h = h
+by_opening config id after journal checkpoints (Down durable pending) h = is_done id (opened config id journal checkpoints).work (found id after h)
 
 abbrev pub noted : Config → Happening → History → History
 noted config (Steps id event) h = by_step config id event (h.world.hosts id.0) h
 noted config (Breaks id event cause) h = by_break config id event (h.world.hosts id.0) h
 noted config (Crashes id cause) h = by_crash id (h.world.hosts id.0) h
-noted config (Opens id after journal checks) h = by_opening config id after journal checks (h.world.hosts id.0) h
+noted config (Opens id after journal checkpoints) h = by_opening config id after journal checkpoints (h.world.hosts id.0) h
 noted config (Fails id after left cause) h = by_restart id after (h.world.hosts id.0) h
 noted config other h = h
 

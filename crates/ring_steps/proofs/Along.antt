@@ -16,14 +16,14 @@ use Rattle.ring_link.specs.Silence.{Link}
 use Rattle.ring_reach.specs.Reach.{Reaches, seen}
 use Rattle.ring_reach.proofs.Reaching.{reach_both, seen_more}
 use Rattle.protocol.specs.Lines.{Learn}
-use Rattle.protocol.specs.Parts.{Ring, Idle, Part, Did}
+use Rattle.protocol.specs.Parts.{Ring, Idle, Part, Effects}
 use Rattle.protocol.specs.Rings.{is_acceptor}
-use Rattle.protocol.specs.Doing.{nothing_done}
+use Rattle.protocol.specs.Effects.{no_effects}
 use Rattle.protocol.specs.Learner.{is_news, learns_news, learns}
 use Rattle.protocol.specs.Proposing.{proposes}
-use Rattle.protocol.specs.Node.{Acting, View, RingPart, part_in, part_at, with_part_in, with_part, prints}
+use Rattle.protocol.specs.Node.{StepSoFar, View, RingPart, part_in, part_at, with_part_in, with_part, prints}
 use Rattle.protocol.specs.Merging.{merges}
-use Rattle.protocol.specs.Learning.{with_did, Queued, queued, proposes_then, by_news, learns_one, then_learns, learns_up_to, does}
+use Rattle.protocol.specs.Learning.{with_effects, Queued, queued, proposes_then, by_news, learns_one, then_learns, learns_up_to, applies_effects}
 use Rattle.mrp_types.specs.declared.id.Party.{Party}
 use Rattle.mrp_types.specs.declared.id.Party.TheVariants.{Node, Client}
 use Rattle.frames.specs.declared.body.Body.{Body}
@@ -43,7 +43,7 @@ use Rattle.ring_tables.specs.Ties.{acceptors, IsRangeChosen, RoleTies, PartTies,
 use Rattle.ring_tables.proofs.More.{mapped, appended, IsRangeChosen-more, all_said_more, all_told_more, recorded_both, told_first, told_through, told_both}
 use Rattle.beside_rings.specs.Beside.{IsNoLearn}
 use Rattle.ring_rules.proofs.Apart.{none_learned, of_none, of_proposes_after}
-use Rattle.ring_tables.specs.Done.{DidTies, After}
+use Rattle.ring_tables.specs.Done.{EffectsTie, After}
 use Rattle.ring_rules.proofs.Coordinating.{learns_ties}
 use Rattle.ring_tables.specs.Settled.{RoleSettled, PartFine}
 
@@ -54,7 +54,7 @@ pub record WasThere (id : RingId) (view : View) (p : RingPart) : Type 0 where
   pub there : part_at view id ≡ Some before
   pub same : SameBut before p
 
-pub record Leaves (ring : Ring) (old new : Acting) : Type 0 where
+pub record Leaves (ring : Ring) (old new : StepSoFar) : Type 0 where
   pub part : (p : RingPart) → part_at new.view ring.id ≡ Some p → WasThere ring.id old.view p
   pub journal : new.view.journal ≡ old.view.journal
   pub changes : (base : RingState) → kept_after ring.id new.changes base ≡ kept_after ring.id old.changes base
@@ -64,7 +64,7 @@ pub record Leaves (ring : Ring) (old new : Acting) : Type 0 where
   pub replies : (now : ℕ → Face Value) → AllByRecursion (IsSaid ring now) old.replies → AllByRecursion (IsSaid ring now) new.replies
   pub lines : (now : ℕ → Face Value) → AllByRecursion (IsTold ring now) old.lines → AllByRecursion (IsTold ring now) new.lines
 
-pub Leaves-refl : (ring : Ring) (a : Acting) → Leaves ring a a
+pub Leaves-refl : (ring : Ring) (a : StepSoFar) → Leaves ring a a
 Leaves-refl ring a = record {
   part = λ p is. record { before = p; there = is; same = SameBut-refl p };
   journal = refl;
@@ -76,7 +76,7 @@ Leaves-refl ring a = record {
   lines = λ now s. s;
 }
 
-pub Leaves-trans : (ring : Ring) {a b c : Acting} → Leaves ring a b → Leaves ring b c → Leaves ring a c
+pub Leaves-trans : (ring : Ring) {a b c : StepSoFar} → Leaves ring a b → Leaves ring b c → Leaves ring a c
 Leaves-trans ring {a} {b} {c} x y = record {
   part = part;
   journal = y.journal ∙ x.journal;
@@ -124,7 +124,7 @@ quiet_said ring now (Node from) (body.Chosen r ranges) quiet = absurd quiet
 quiet_said ring now (Node from) other quiet = tt
 
 -- what touches no ring leaves this one
-pub untouched_leaves : (ring : Ring) (a b : Acting) → Untouched a b → Leaves ring a b
+pub untouched_leaves : (ring : Ring) (a b : StepSoFar) → Untouched a b → Leaves ring a b
 untouched_leaves ring a b u = record {
   part = λ p is. let q = same_there ring.id a.view.parts b.view.parts u.parts p is in record { before = q.0; there = q.1; same = q.2 };
   journal = u.journal;
@@ -198,27 +198,27 @@ pub record MemberTies (ring : Ring) (faces : ℕ → Face Value) (a : ℕ) (base
   pub fine : P p.part
 
 -- From the face `start` and the journal j a step has come to the face f.
-pub record OnWay (ring : Ring) (faces : ℕ → Face Value) (a : ℕ) (start : Face Value) (j : Journal) (P : Part → Type 0) (f : Face Value) (acting : Acting) : Type 0 where
+pub record OnWay (ring : Ring) (faces : ℕ → Face Value) (a : ℕ) (start : Face Value) (j : Journal) (P : Part → Type 0) (f : Face Value) (so_far : StepSoFar) : Type 0 where
   pub reached : Reaches (acceptors ring) faces a start f
-  pub journal : acting.view.journal ≡ j
-  pub kept : KeptTies f (kept_after ring.id acting.changes (ring_at j.state ring.id))
-  pub frames : AllByRecursion (IsSaid ring (seen faces a f)) acting.frames
-  pub replies : AllByRecursion (IsSaid ring (seen faces a f)) acting.replies
-  pub lines : AllByRecursion (IsTold ring (seen faces a f)) acting.lines
-  pub recorded : AreRecorded ring.id start f acting.changes
-  pub told : AreTold ring a start f acting.frames
-  pub part : (p : RingPart) → part_at acting.view ring.id ≡ Some p → MemberTies ring faces a (ring_at j.state ring.id) P f acting.changes p
+  pub journal : so_far.view.journal ≡ j
+  pub kept : KeptTies f (kept_after ring.id so_far.changes (ring_at j.state ring.id))
+  pub frames : AllByRecursion (IsSaid ring (seen faces a f)) so_far.frames
+  pub replies : AllByRecursion (IsSaid ring (seen faces a f)) so_far.replies
+  pub lines : AllByRecursion (IsTold ring (seen faces a f)) so_far.lines
+  pub recorded : AreRecorded ring.id start f so_far.changes
+  pub told : AreTold ring a start f so_far.frames
+  pub part : (p : RingPart) → part_at so_far.view ring.id ≡ Some p → MemberTies ring faces a (ring_at j.state ring.id) P f so_far.changes p
 
-pub record WayAfter (ring : Ring) (faces : ℕ → Face Value) (a : ℕ) (start : Face Value) (j : Journal) (P : Part → Type 0) (f : Face Value) (acting : Acting) : Type 0 where
+pub record WayAfter (ring : Ring) (faces : ℕ → Face Value) (a : ℕ) (start : Face Value) (j : Journal) (P : Part → Type 0) (f : Face Value) (so_far : StepSoFar) : Type 0 where
   pub face : Face Value
   pub grows : Grows f face
-  pub way : OnWay ring faces a start j P face acting
+  pub way : OnWay ring faces a start j P face so_far
 
 -- with ranges that are still to be learned
 pub record QueueWay (ring : Ring) (faces : ℕ → Face Value) (a : ℕ) (start : Face Value) (j : Journal) (P : Part → Type 0) (f : Face Value) (q : Queued) : Type 0 where
   pub face : Face Value
   pub grows : Grows f face
-  pub way : OnWay ring faces a start j P face q.acting
+  pub way : OnWay ring faces a start j P face q.so_far
   pub chosen : AllByRecursion (IsRangeChosen (acceptors ring) (seen faces a face)) q.ranges
 
 -- ---- what is left alone
@@ -249,7 +249,7 @@ module _ (ring : Ring) (faces : ℕ → Face Value) (a : ℕ) (start : Face Valu
   abbrev base : RingState
   base = ring_at j.state ring.id
 
-  pub way_leaves : (P : Part → Type 0) → ((q p : RingPart) → SameBut q p → P q.part → P p.part) → (f : Face Value) (old new : Acting) → Leaves ring old new
+  pub way_leaves : (P : Part → Type 0) → ((q p : RingPart) → SameBut q p → P q.part → P p.part) → (f : Face Value) (old new : StepSoFar) → Leaves ring old new
       → OnWay ring faces a start j P f old → OnWay ring faces a start j P f new
   way_leaves P same f old new l w = record {
     reached = w.reached;
@@ -272,36 +272,36 @@ module _ (ring : Ring) (faces : ℕ → Face Value) (a : ℕ) (start : Face Valu
   }
 
   -- a rule of the ring was made here
-  pub way_did : (P Q : Part → Type 0) (f g : Face Value) (acting : Acting) → OnWay ring faces a start j P f acting → (p : RingPart) → part_at acting.view ring.id ≡ Some p
-      → (did : Did) → AllByRecursion IsNoLearn did.lines → Grows f g → DidTies ring faces a f p.part.kept g did → Q did.part → OnWay ring faces a start j Q g (with_did ring did acting)
-  way_did P Q f g acting w p there did unlearned grows u fine =
+  pub way_effects : (P Q : Part → Type 0) (f g : Face Value) (so_far : StepSoFar) → OnWay ring faces a start j P f so_far → (p : RingPart) → part_at so_far.view ring.id ≡ Some p
+      → (effects : Effects) → AllByRecursion IsNoLearn effects.lines → Grows f g → EffectsTie ring faces a f p.part.kept g effects → Q effects.part → OnWay ring faces a start j Q g (with_effects ring effects so_far)
+  way_effects P Q f g so_far w p there effects unlearned grows u fine =
       let e = u.done in
       let m = w.part p there in
       let more : (k : ℕ) → Grows (seen faces a f k) (seen faces a g k) = seen_more (acceptors ring) faces a f g grows in
-      let changed : kept_after ring.id (acting.changes ++ did.changes) base ≡ did.part.kept =
-      kept_both ring.id acting.changes did.changes base ∙ ap (λ k. kept_after ring.id did.changes k) m.kept ∙ e.changes in
+      let changed : kept_after ring.id (so_far.changes ++ effects.changes) base ≡ effects.part.kept =
+      kept_both ring.id so_far.changes effects.changes base ∙ ap (λ k. kept_after ring.id effects.changes k) m.kept ∙ e.changes in
       record {
         reached = reach_both (acceptors ring) faces a start f g w.reached e.reached;
         journal = w.journal;
         kept = subst (λ k. KeptTies g k) (sym changed) e.kept;
-        frames = appended (IsSaid ring (seen faces a g)) acting.frames did.frames (all_said_more ring (seen faces a f) (seen faces a g) more acting.frames w.frames) e.frames;
-        replies = all_said_more ring (seen faces a f) (seen faces a g) more acting.replies w.replies;
-        lines = appended (IsTold ring (seen faces a g)) acting.lines did.lines (all_told_more ring (seen faces a f) (seen faces a g) more acting.lines w.lines)
-            (none_learned ring (seen faces a g) did.lines unlearned);
-        recorded = recorded_both ring start f g acting.changes did.changes grows w.recorded e.recorded;
-        told = told_both ring a start f g acting.frames did.frames w.told u.told;
+        frames = appended (IsSaid ring (seen faces a g)) so_far.frames effects.frames (all_said_more ring (seen faces a f) (seen faces a g) more so_far.frames w.frames) e.frames;
+        replies = all_said_more ring (seen faces a f) (seen faces a g) more so_far.replies w.replies;
+        lines = appended (IsTold ring (seen faces a g)) so_far.lines effects.lines (all_told_more ring (seen faces a f) (seen faces a g) more so_far.lines w.lines)
+            (none_learned ring (seen faces a g) effects.lines unlearned);
+        recorded = recorded_both ring start f g so_far.changes effects.changes grows w.recorded e.recorded;
+        told = told_both ring a start f g so_far.frames effects.frames w.told u.told;
         part = λ q is.
-            let made : RingPart = record p { part = did.part } in
-            let same : made ≡ q = put_there ring.id did.part acting.view.parts p q there is in
-            subst (λ (x : RingPart). MemberTies ring faces a base Q g (acting.changes ++ did.changes) x) same
+            let made : RingPart = record p { part = effects.part } in
+            let same : made ≡ q = put_there ring.id effects.part so_far.view.parts p q there is in
+            subst (λ (x : RingPart). MemberTies ring faces a base Q g (so_far.changes ++ effects.changes) x) same
             (record { of_ring = m.of_ring; ties = record { kept = e.kept; role = u.role; learner = e.learner }; kept = changed; fine = fine });
       }
 
   -- a range was learned
-  pub way_learned : (P Q : Part → Type 0) (f : Face Value) (acting : Acting) → OnWay ring faces a start j P f acting → (p : RingPart) → part_at acting.view ring.id ≡ Some p
+  pub way_learned : (P Q : Part → Type 0) (f : Face Value) (so_far : StepSoFar) → OnWay ring faces a start j P f so_far → (p : RingPart) → part_at so_far.view ring.id ≡ Some p
       → (range : Decided) → IsRangeChosen (acceptors ring) (seen faces a f) range → Q (learns ring p.part range).part
-      → OnWay ring faces a start j Q f (with_part ring (learns ring p.part range).part acting)
-  way_learned P Q f acting w p there range chosen fine =
+      → OnWay ring faces a start j Q f (with_part ring (learns ring p.part range).part so_far)
+  way_learned P Q f so_far w p there range chosen fine =
       let m = w.part p there in
       let new : Part = (learns ring p.part range).part in
       record {
@@ -315,8 +315,8 @@ module _ (ring : Ring) (faces : ℕ → Face Value) (a : ℕ) (start : Face Valu
         told = w.told;
         part = λ q is.
             let made : RingPart = record p { part = (learns ring p.part range).part } in
-            let same : made ≡ q = put_there ring.id (learns ring p.part range).part acting.view.parts p q there is in
-            subst (λ (x : RingPart). MemberTies ring faces a base Q f acting.changes x) same
+            let same : made ≡ q = put_there ring.id (learns ring p.part range).part so_far.view.parts p q there is in
+            subst (λ (x : RingPart). MemberTies ring faces a base Q f so_far.changes x) same
             (record {
               of_ring = m.of_ring;
               ties = learns_ties (acceptors ring) (seen faces a f) f ring p.part range chosen m.ties;
@@ -336,31 +336,31 @@ module _ (ring : Ring) (faces : ℕ → Face Value) (a : ℕ) (start : Face Valu
         mapped (IsRangeChosen (acceptors ring) (seen faces a f)) (IsRangeChosen (acceptors ring) (seen faces a g))
         (IsRangeChosen-more (acceptors ring) (seen faces a f) (seen faces a g) (seen_more (acceptors ring) faces a f g grows)) ranges all
 
-    queue_did : (P : Part → Type 0) (f g : Face Value) (acting : Acting) → OnWay ring faces a start j P f acting → (p : RingPart) → part_at acting.view ring.id ≡ Some p
+    queue_effects : (P : Part → Type 0) (f g : Face Value) (so_far : StepSoFar) → OnWay ring faces a start j P f so_far → (p : RingPart) → part_at so_far.view ring.id ≡ Some p
         → (later : List Decided) → AllByRecursion (IsRangeChosen (acceptors ring) (seen faces a f)) later
-        → (did : Did) → AllByRecursion IsNoLearn did.lines → Grows f g → DidTies ring faces a f p.part.kept g did → PartFine ring did.part
-        → QueueWay ring faces a start j (PartFine ring) f (queued ring later did acting)
-    queue_did P f g acting w p there later chosen did unlearned grows u fine = record {
+        → (effects : Effects) → AllByRecursion IsNoLearn effects.lines → Grows f g → EffectsTie ring faces a f p.part.kept g effects → PartFine ring effects.part
+        → QueueWay ring faces a start j (PartFine ring) f (queued ring later effects so_far)
+    queue_effects P f g so_far w p there later chosen effects unlearned grows u fine = record {
       face = g;
       grows = grows;
-      way = way_did P (PartFine ring) f g acting w p there did unlearned grows u fine;
-      chosen = appended (IsRangeChosen (acceptors ring) (seen faces a g)) later did.learned (ranges_more f g grows later chosen) u.done.learned;
+      way = way_effects P (PartFine ring) f g so_far w p there effects unlearned grows u fine;
+      chosen = appended (IsRangeChosen (acceptors ring) (seen faces a g)) later effects.learned (ranges_more f g grows later chosen) u.done.learned;
     }
 
-    then_proposes : (f : Face Value) (acting : Acting) → OnWay ring faces a start j (PartIdle ring) f acting → (later : List Decided)
+    then_proposes : (f : Face Value) (so_far : StepSoFar) → OnWay ring faces a start j (PartIdle ring) f so_far → (later : List Decided)
         → AllByRecursion (IsRangeChosen (acceptors ring) (seen faces a f)) later
-        → (o : Option RingPart) → part_at acting.view ring.id ≡ o → QueueWay ring faces a start j (PartFine ring) f (proposes_then ring later o acting)
-    then_proposes f acting w later chosen None e = record {
+        → (o : Option RingPart) → part_at so_far.view ring.id ≡ o → QueueWay ring faces a start j (PartFine ring) f (proposes_then ring later o so_far)
+    then_proposes f so_far w later chosen None e = record {
       face = f;
       grows = Grows-refl f;
       way = record { reached = w.reached; journal = w.journal; kept = w.kept; frames = w.frames; replies = w.replies; lines = w.lines; recorded = w.recorded; told = w.told; part = λ p is. absurd (cc) };
       chosen = chosen;
     }
-    then_proposes f acting w later chosen (Some p) e =
+    then_proposes f so_far w later chosen (Some p) e =
         let m = w.part p e in
-        let r : Ruled ring faces a f p.part.kept (proposes ring acting.view.link p.part) = resumes f w.reached acting.view.link p.part m.ties m.fine in
-        queue_did (PartIdle ring) f r.after.face acting w p e later chosen (proposes ring acting.view.link p.part)
-        (of_proposes_after ring (nothing_done p.part) acting.view.link (of_none ring p.part)).lines r.after.grows r.after.ties r.fine
+        let r : Ruled ring faces a f p.part.kept (proposes ring so_far.view.link p.part) = resumes f w.reached so_far.view.link p.part m.ties m.fine in
+        queue_effects (PartIdle ring) f r.after.face so_far w p e later chosen (proposes ring so_far.view.link p.part)
+        (of_proposes_after ring (no_effects p.part) so_far.view.link (of_none ring p.part)).lines r.after.grows r.after.ties r.fine
 
     learned_fine : (part : Part) (range : Decided) → PartFine ring part → (learns ring part range).news ≡ false → PartFine ring (learns ring part range).part
     unfolding learns
@@ -378,35 +378,35 @@ module _ (ring : Ring) (faces : ℕ → Face Value) (a : ℕ) (start : Face Valu
         go false = idle
         go true = λ none. rw (idle none) refl
 
-    one_learned : (f : Face Value) (acting : Acting) → OnWay ring faces a start j (PartFine ring) f acting → (range : Decided) (later : List Decided)
+    one_learned : (f : Face Value) (so_far : StepSoFar) → OnWay ring faces a start j (PartFine ring) f so_far → (range : Decided) (later : List Decided)
         → IsRangeChosen (acceptors ring) (seen faces a f) range → AllByRecursion (IsRangeChosen (acceptors ring) (seen faces a f)) later
-        → (o : Option RingPart) → part_at acting.view ring.id ≡ o → QueueWay ring faces a start j (PartFine ring) f (learns_one config ring range later o acting)
-    one_learned f acting w range later here chosen None e = record { face = f; grows = Grows-refl f; way = w; chosen = chosen }
-    one_learned f acting w range later here chosen (Some p) e = by_test (learns ring p.part range).news refl
+        → (o : Option RingPart) → part_at so_far.view ring.id ≡ o → QueueWay ring faces a start j (PartFine ring) f (learns_one config ring range later o so_far)
+    one_learned f so_far w range later here chosen None e = record { face = f; grows = Grows-refl f; way = w; chosen = chosen }
+    one_learned f so_far w range later here chosen (Some p) e = by_test (learns ring p.part range).news refl
       where
-        m : MemberTies ring faces a base (PartFine ring) f acting.changes p
+        m : MemberTies ring faces a base (PartFine ring) f so_far.changes p
         m = w.part p e
 
         by_test : (b : Bool) → (learns ring p.part range).news ≡ b
-            → QueueWay ring faces a start j (PartFine ring) f (by_news config ring range later b (with_part ring (learns ring p.part range).part acting))
+            → QueueWay ring faces a start j (PartFine ring) f (by_news config ring range later b (with_part ring (learns ring p.part range).part so_far))
         by_test false news = record {
           face = f;
           grows = Grows-refl f;
-          way = way_learned (PartFine ring) (PartFine ring) f acting w p e range here (learned_fine p.part range m.fine news);
+          way = way_learned (PartFine ring) (PartFine ring) f so_far w p e range here (learned_fine p.part range m.fine news);
           chosen = chosen;
         }
         by_test true news =
-            let now : Acting = with_part ring (learns ring p.part range).part acting in
-            let told : Acting = prints (Learn acting.view.id ring.id range.lo range.hi range.value ∷ []) now in
+            let now : StepSoFar = with_part ring (learns ring p.part range).part so_far in
+            let told : StepSoFar = prints (Learn so_far.view.id ring.id range.lo range.hi range.value ∷ []) now in
             let way : OnWay ring faces a start j (PartIdle ring) f now =
-            way_learned (PartFine ring) (PartIdle ring) f acting w p e range here (learned_idle p.part range m.fine.idle) in
+            way_learned (PartFine ring) (PartIdle ring) f so_far w p e range here (learned_idle p.part range m.fine.idle) in
             let printed : OnWay ring faces a start j (PartIdle ring) f told = record {
               reached = way.reached;
               journal = way.journal;
               kept = way.kept;
               frames = way.frames;
               replies = way.replies;
-              lines = appended (IsTold ring (seen faces a f)) acting.lines (Learn acting.view.id ring.id range.lo range.hi range.value ∷ []) way.lines ((λ e. here), tt);
+              lines = appended (IsTold ring (seen faces a f)) so_far.lines (Learn so_far.view.id ring.id range.lo range.hi range.value ∷ []) way.lines ((λ e. here), tt);
               recorded = way.recorded;
               told = way.told;
               part = way.part;
@@ -415,26 +415,26 @@ module _ (ring : Ring) (faces : ℕ → Face Value) (a : ℕ) (start : Face Valu
             (way_leaves (PartIdle ring) (PartIdle-same ring) f told (merges config told) (untouched_leaves ring told (merges config told) (merges_untouched config told)) printed)
             later chosen (part_at (merges config told).view ring.id) refl
 
-    queue_learns : (most : ℕ) (f : Face Value) (q : Queued) → OnWay ring faces a start j (PartFine ring) f q.acting → AllByRecursion (IsRangeChosen (acceptors ring) (seen faces a f)) q.ranges
+    queue_learns : (most : ℕ) (f : Face Value) (q : Queued) → OnWay ring faces a start j (PartFine ring) f q.so_far → AllByRecursion (IsRangeChosen (acceptors ring) (seen faces a f)) q.ranges
         → WayAfter ring faces a start j (PartFine ring) f (learns_up_to most config ring q)
     queue_learns zero f q w chosen = record { face = f; grows = Grows-refl f; way = w }
     queue_learns (suc most) f q w chosen = go q.ranges chosen (λ g r. queue_learns most g r)
       where
         go : (ranges : List Decided) → AllByRecursion (IsRangeChosen (acceptors ring) (seen faces a f)) ranges
-            → ((g : Face Value) (r : Queued) → OnWay ring faces a start j (PartFine ring) g r.acting → AllByRecursion (IsRangeChosen (acceptors ring) (seen faces a g)) r.ranges
+            → ((g : Face Value) (r : Queued) → OnWay ring faces a start j (PartFine ring) g r.so_far → AllByRecursion (IsRangeChosen (acceptors ring) (seen faces a g)) r.ranges
             → WayAfter ring faces a start j (PartFine ring) g (learns_up_to most config ring r))
             → WayAfter ring faces a start j (PartFine ring) f (then_learns (learns_up_to most config ring) config ring q ranges)
         go [] chosen rest = record { face = f; grows = Grows-refl f; way = w }
         go (range ∷ later) chosen rest =
-            let one = one_learned f q.acting w range later chosen.0 chosen.1 (part_at q.acting.view ring.id) refl in
-            let end = rest one.face (learns_one config ring range later (part_at q.acting.view ring.id) q.acting) one.way one.chosen in
+            let one = one_learned f q.so_far w range later chosen.0 chosen.1 (part_at q.so_far.view ring.id) refl in
+            let end = rest one.face (learns_one config ring range later (part_at q.so_far.view ring.id) q.so_far) one.way one.chosen in
             record { face = end.face; grows = Grows-trans one.grows end.grows; way = end.way }
 
     -- a rule of the ring was made, and what it decided is learned
-    pub does_way : (f : Face Value) (acting : Acting) → OnWay ring faces a start j (PartFine ring) f acting → (p : RingPart) → part_at acting.view ring.id ≡ Some p
-        → (did : Did) → AllByRecursion IsNoLearn did.lines → After ring faces a f p.part.kept f did → PartFine ring did.part → WayAfter ring faces a start j (PartFine ring) f (does config ring did acting)
-    unfolding does
-    does_way f acting w p there did unlearned u fine =
-        let q = queue_did (PartFine ring) f u.face acting w p there [] tt did unlearned u.grows u.ties fine in
-        let end = queue_learns (2 ^ 44) q.face (queued ring [] did acting) q.way q.chosen in
+    pub applies_effects_way : (f : Face Value) (so_far : StepSoFar) → OnWay ring faces a start j (PartFine ring) f so_far → (p : RingPart) → part_at so_far.view ring.id ≡ Some p
+        → (effects : Effects) → AllByRecursion IsNoLearn effects.lines → After ring faces a f p.part.kept f effects → PartFine ring effects.part → WayAfter ring faces a start j (PartFine ring) f (applies_effects config ring effects so_far)
+    unfolding applies_effects
+    applies_effects_way f so_far w p there effects unlearned u fine =
+        let q = queue_effects (PartFine ring) f u.face so_far w p there [] tt effects unlearned u.grows u.ties fine in
+        let end = queue_learns (2 ^ 44) q.face (queued ring [] effects so_far) q.way q.chosen in
         record { face = end.face; grows = Grows-trans q.grows end.grows; way = end.way }

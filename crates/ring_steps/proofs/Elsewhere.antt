@@ -6,13 +6,13 @@ use Rattle.mrp_types.specs.declared.id.RingId.{RingId}
 use Rattle.mrp_types.specs.declared.voted.Decided.{Decided}
 use Rattle.mrp_config.specs.Config.{Config}
 use Rattle.protocol.specs.Lines.{Learn}
-use Rattle.protocol.specs.Parts.{Ring, Part, Did}
-use Rattle.protocol.specs.Doing.{nothing_done}
+use Rattle.protocol.specs.Parts.{Ring, Part, Effects}
+use Rattle.protocol.specs.Effects.{no_effects}
 use Rattle.protocol.specs.Learner.{learns}
 use Rattle.protocol.specs.Proposing.{proposes}
-use Rattle.protocol.specs.Node.{Acting, RingPart, part_in, part_at, with_part_in, with_part, prints}
+use Rattle.protocol.specs.Node.{StepSoFar, RingPart, part_in, part_at, with_part_in, with_part, prints}
 use Rattle.protocol.specs.Merging.{merges}
-use Rattle.protocol.specs.Learning.{with_did, Queued, queued, proposes_then, by_news, learns_one, then_learns, learns_up_to, does}
+use Rattle.protocol.specs.Learning.{with_effects, Queued, queued, proposes_then, by_news, learns_one, then_learns, learns_up_to, applies_effects}
 use Rattle.ring_steps.proofs.Along.{Leaves, Leaves-refl, Leaves-trans, untouched_leaves, kept_both}
 use Rattle.beside_rings.proofs.Following.{SameBut-refl}
 use Rattle.beside_rings.proofs.Merge.{merges_untouched}
@@ -36,37 +36,37 @@ put_apart id other ne new (p ∷ parts) = go (p.ring.id.0 == other.0) refl (put_
 
 module _ (ring other : Ring) (ne : other.id.0 ≡ ring.id.0 → ⊥) where
   -- a part of the other ring is put
-  put_leaves : (part : Part) (a : Acting) → Leaves ring a (with_part other part a)
+  put_leaves : (part : Part) (a : StepSoFar) → Leaves ring a (with_part other part a)
   put_leaves part a = record { part = λ p is. record { before = p; there = sym (put_apart ring.id other.id ne part a.view.parts) ∙ is; same = SameBut-refl p }; journal = refl; changes = λ base. refl; recorded = λ z f s. s; sent = λ p t. t; frames = λ now s. s; replies = λ now s. s; lines = λ now s. s }
 
-  did_leaves : (did : Did) (a : Acting) → IsOf other did → Leaves ring a (with_did other did a)
-  did_leaves did a o = record {
-    part = λ p is. record { before = p; there = sym (put_apart ring.id other.id ne did.part a.view.parts) ∙ is; same = SameBut-refl p };
+  effects_leaves : (effects : Effects) (a : StepSoFar) → IsOf other effects → Leaves ring a (with_effects other effects a)
+  effects_leaves effects a o = record {
+    part = λ p is. record { before = p; there = sym (put_apart ring.id other.id ne effects.part a.view.parts) ∙ is; same = SameBut-refl p };
     journal = refl;
-    changes = λ base. kept_both ring.id a.changes did.changes base ∙ changes_apart other.id ring.id ne did.changes o.changes (kept_after ring.id a.changes base);
-    recorded = λ z f s. recorded_apart ring z f a.changes did.changes (records_apart other.id ring ne f did.changes o.changes) s;
-    sent = λ p t. told_first ring a.frames did.frames p t;
-    frames = λ now s. appended (IsSaid ring now) a.frames did.frames s (frames_apart other.id ring ne now did.frames o.frames);
+    changes = λ base. kept_both ring.id a.changes effects.changes base ∙ changes_apart other.id ring.id ne effects.changes o.changes (kept_after ring.id a.changes base);
+    recorded = λ z f s. recorded_apart ring z f a.changes effects.changes (records_apart other.id ring ne f effects.changes o.changes) s;
+    sent = λ p t. told_first ring a.frames effects.frames p t;
+    frames = λ now s. appended (IsSaid ring now) a.frames effects.frames s (frames_apart other.id ring ne now effects.frames o.frames);
     replies = λ now s. s;
-    lines = λ now s. appended (IsTold ring now) a.lines did.lines s (none_learned ring now did.lines o.lines);
+    lines = λ now s. appended (IsTold ring now) a.lines effects.lines s (none_learned ring now effects.lines o.lines);
   }
 
-  proposes_leaves : (later : List Decided) (o : Option RingPart) (a : Acting) → Leaves ring a (proposes_then other later o a).acting
+  proposes_leaves : (later : List Decided) (o : Option RingPart) (a : StepSoFar) → Leaves ring a (proposes_then other later o a).so_far
   proposes_leaves later None a = Leaves-refl ring a
-  proposes_leaves later (Some p) a = did_leaves (proposes other a.view.link p.part) a (of_proposes_after other (nothing_done p.part) a.view.link (of_none other p.part))
+  proposes_leaves later (Some p) a = effects_leaves (proposes other a.view.link p.part) a (of_proposes_after other (no_effects p.part) a.view.link (of_none other p.part))
 
   module _ (config : Config) where
-    one_leaves : (range : Decided) (later : List Decided) (o : Option RingPart) (a : Acting) → Leaves ring a (learns_one config other range later o a).acting
+    one_leaves : (range : Decided) (later : List Decided) (o : Option RingPart) (a : StepSoFar) → Leaves ring a (learns_one config other range later o a).so_far
     one_leaves range later None a = Leaves-refl ring a
     one_leaves range later (Some p) a = go (learns other p.part range).news
       where
-        now : Acting
+        now : StepSoFar
         now = with_part other (learns other p.part range).part a
 
-        go : (b : Bool) → Leaves ring a (by_news config other range later b (with_part other (learns other p.part range).part a)).acting
+        go : (b : Bool) → Leaves ring a (by_news config other range later b (with_part other (learns other p.part range).part a)).so_far
         go false = put_leaves (learns other p.part range).part a
         go true =
-            let told : Acting = prints (Learn a.view.id other.id range.lo range.hi range.value ∷ []) (with_part other (learns other p.part range).part a) in
+            let told : StepSoFar = prints (Learn a.view.id other.id range.lo range.hi range.value ∷ []) (with_part other (learns other p.part range).part a) in
             let first : Leaves ring a told = Leaves-trans ring (put_leaves (learns other p.part range).part a) (record {
               part = λ q is. record { before = q; there = is; same = SameBut-refl q };
               journal = refl;
@@ -79,16 +79,16 @@ module _ (ring other : Ring) (ne : other.id.0 ≡ ring.id.0 → ⊥) where
             }) in
             Leaves-trans ring (Leaves-trans ring first (untouched_leaves ring told (merges config told) (merges_untouched config told))) (proposes_leaves later (part_at (merges config told).view other.id) (merges config told))
 
-    learns_leaves : (most : ℕ) (q : Queued) → Leaves ring q.acting (learns_up_to most config other q)
-    learns_leaves zero q = Leaves-refl ring q.acting
+    learns_leaves : (most : ℕ) (q : Queued) → Leaves ring q.so_far (learns_up_to most config other q)
+    learns_leaves zero q = Leaves-refl ring q.so_far
     learns_leaves (suc most) q = go q.ranges (λ r. learns_leaves most r)
       where
-        go : (ranges : List Decided) → ((r : Queued) → Leaves ring r.acting (learns_up_to most config other r))
-            → Leaves ring q.acting (then_learns (learns_up_to most config other) config other q ranges)
-        go [] rest = Leaves-refl ring q.acting
+        go : (ranges : List Decided) → ((r : Queued) → Leaves ring r.so_far (learns_up_to most config other r))
+            → Leaves ring q.so_far (then_learns (learns_up_to most config other) config other q ranges)
+        go [] rest = Leaves-refl ring q.so_far
         go (range ∷ later) rest =
-            Leaves-trans ring (one_leaves range later (part_at q.acting.view other.id) q.acting) (rest (learns_one config other range later (part_at q.acting.view other.id) q.acting))
+            Leaves-trans ring (one_leaves range later (part_at q.so_far.view other.id) q.so_far) (rest (learns_one config other range later (part_at q.so_far.view other.id) q.so_far))
 
-    pub does_leaves : (did : Did) (a : Acting) → IsOf other did → Leaves ring a (does config other did a)
-    unfolding does
-    does_leaves did a o = Leaves-trans ring (did_leaves did a o) (learns_leaves (2 ^ 44) (queued other [] did a))
+    pub applies_effects_leaves : (effects : Effects) (a : StepSoFar) → IsOf other effects → Leaves ring a (applies_effects config other effects a)
+    unfolding applies_effects
+    applies_effects_leaves effects a o = Leaves-trans ring (effects_leaves effects a o) (learns_leaves (2 ^ 44) (queued other [] effects a))

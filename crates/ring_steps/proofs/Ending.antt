@@ -16,10 +16,10 @@ use Rattle.ring_reach.proofs.Reaching.{reach_none}
 use Rattle.protocol.specs.Parts.{Ring}
 use Rattle.protocol.specs.Rings.{is_acceptor}
 use Rattle.protocol.specs.Coordinator.{leads}
-use Rattle.protocol.specs.Node.{work_of, Acting, View, RingPart, Service, Stage, Recovering, Ready, Event, Ticks, Takes, Leads, Stepped, begun_with, finished, part_in, part_at}
+use Rattle.protocol.specs.Node.{work_of, StepSoFar, View, RingPart, Service, Stage, Recovering, Ready, Event, Ticks, Takes, Leads, Stepped, begun_with, finished, part_in, part_at}
 use Rattle.protocol.specs.Bases.{base_by, rebased, rebases}
-use Rattle.protocol.specs.Learning.{does}
-use Rattle.protocol.specs.Step.{at_acceptor, takes_from, step}
+use Rattle.protocol.specs.Learning.{applies_effects}
+use Rattle.protocol.specs.Step.{at_acceptor, handles_from, step}
 use Rattle.protocol.specs.Tick.{saves, is_due_to_save, saves_stage, saves_first, is_due_to_compact, compacts, beats, or_compacts, ticks}
 use Rattle.range_map.proofs.EntryLemmas.{increasing_entries_from}
 use Rattle.vote_state.specs.State.{ring_at}
@@ -100,8 +100,8 @@ recorded_rings j (c ∷ cs) = taken_rings (c ∷ cs) j.state
 -- ---- the end
 
 module _ (ring : Ring) (faces : ℕ → Face Value) (a : ℕ) (start : Face Value) where
-  way_rebased : (j : Journal) (f : Face Value) (acting : Acting) → OnWay ring faces a start j (PartFine ring) f acting → OnWay ring faces a start j (PartFine ring) f (rebases acting)
-  way_rebased j f acting w = record {
+  way_rebased : (j : Journal) (f : Face Value) (so_far : StepSoFar) → OnWay ring faces a start j (PartFine ring) f so_far → OnWay ring faces a start j (PartFine ring) f (rebases so_far)
+  way_rebased j f so_far w = record {
     reached = w.reached;
     journal = w.journal;
     kept = w.kept;
@@ -111,47 +111,47 @@ module _ (ring : Ring) (faces : ℕ → Face Value) (a : ℕ) (start : Face Valu
     recorded = w.recorded;
     told = w.told;
     part = λ q is.
-        let m = mapped_there (rebased acting.view.service) (λ p. refl) acting.view.parts ring.id q is in
+        let m = mapped_there (rebased so_far.view.service) (λ p. refl) so_far.view.parts ring.id q is in
         let t = w.part m.before m.there in
-        subst (λ (x : RingPart). MemberTies ring faces a (ring_at j.state ring.id) (PartFine ring) f acting.changes x) m.made
+        subst (λ (x : RingPart). MemberTies ring faces a (ring_at j.state ring.id) (PartFine ring) f so_far.changes x) m.made
         (record {
           of_ring = t.of_ring;
           ties = record {
             kept = t.ties.kept;
             role = t.ties.role;
-            learner = based_ties (acceptors ring) (seen faces a f) (base_by m.before.ring m.before.part acting.view.service) m.before.part.learner t.ties.learner;
+            learner = based_ties (acceptors ring) (seen faces a f) (base_by m.before.ring m.before.part so_far.view.service) m.before.part.learner t.ties.learner;
           };
           kept = t.kept;
           fine = record { settled = t.fine.settled; idle = t.fine.idle };
         });
   }
 
-  pub way_finished : (f : Face Value) (acting : Acting) → ring.id.0 < length acting.view.journal.state.rings → OnWay ring faces a start acting.view.journal (PartFine ring) f acting
-      → StepStands ring faces a start (finished acting)
-  way_finished f acting within w = record {
+  pub way_finished : (f : Face Value) (so_far : StepSoFar) → ring.id.0 < length so_far.view.journal.state.rings → OnWay ring faces a start so_far.view.journal (PartFine ring) f so_far
+      → StepStands ring faces a start (finished so_far)
+  way_finished f so_far within w = record {
     face = f;
     reached = w.reached;
     stands = record {
-      rings = let same = recorded_rings acting.view.journal acting.changes in omega arith;
+      rings = let same = recorded_rings so_far.view.journal so_far.changes in omega arith;
       kept = subst (λ k. KeptTies f k) (sym now) w.kept;
       part = λ p is. let t = w.part p is in record { of_ring = t.of_ring; ties = t.ties; kept = sym t.kept ∙ sym now; fine = t.fine };
     };
-    frames = appended (IsSaid ring (seen faces a f)) acting.frames acting.replies w.frames w.replies;
+    frames = appended (IsSaid ring (seen faces a f)) so_far.frames so_far.replies w.frames w.replies;
     lines = w.lines;
-    recorded = work acting.changes w.recorded;
-    told = told_more ring a start f acting.frames acting.replies w.told;
+    recorded = work so_far.changes w.recorded;
+    told = told_more ring a start f so_far.frames so_far.replies w.told;
   }
     where
       work : (cs : List Change) → AreRecorded ring.id start f cs → AreRecorded ring.id start f (changes_in (work_of cs))
       work [] all = all
       work (c ∷ cs) all = all
 
-      now : ring_at (recorded acting.view.journal acting.changes).state ring.id ≡ kept_after ring.id acting.changes (ring_at acting.view.journal.state ring.id)
-      now = state_recorded acting.view.journal acting.changes ring.id within
+      now : ring_at (recorded so_far.view.journal so_far.changes).state ring.id ≡ kept_after ring.id so_far.changes (ring_at so_far.view.journal.state ring.id)
+      now = state_recorded so_far.view.journal so_far.changes ring.id within
 
-  pub finished_stands : (f : Face Value) (acting : Acting) → ring.id.0 < length acting.view.journal.state.rings → OnWay ring faces a start acting.view.journal (PartFine ring) f acting
-      → StepStands ring faces a start (finished (rebases acting))
-  finished_stands f acting within w = way_finished f (rebases acting) within (way_rebased acting.view.journal f acting w)
+  pub finished_stands : (f : Face Value) (so_far : StepSoFar) → ring.id.0 < length so_far.view.journal.state.rings → OnWay ring faces a start so_far.view.journal (PartFine ring) f so_far
+      → StepStands ring faces a start (finished (rebases so_far))
+  finished_stands f so_far within w = way_finished f (rebases so_far) within (way_rebased so_far.view.journal f so_far w)
 
 -- ---- the step
 
@@ -180,16 +180,16 @@ module _ (config : Config) (ring : Ring) (faces : ℕ → Face Value) (a : ℕ) 
         part_of : List RingPart → Option RingPart
         part_of l = part_in l ring.id
 
-    ends : (f : Face Value) (acting : Acting) → WayAfter ring faces a start view.journal (PartFine ring) f acting → StepStands ring faces a start (finished (rebases acting))
-    ends f acting w =
-        let same : acting.view.journal ≡ view.journal = w.way.journal in
-        finished_stands ring faces a start w.face acting (subst (λ (x : Journal). ring.id.0 < length x.state.rings) (sym same) v.rings)
-        (subst (λ (x : Journal). OnWay ring faces a start x (PartFine ring) w.face acting) (sym same) w.way)
+    ends : (f : Face Value) (so_far : StepSoFar) → WayAfter ring faces a start view.journal (PartFine ring) f so_far → StepStands ring faces a start (finished (rebases so_far))
+    ends f so_far w =
+        let same : so_far.view.journal ≡ view.journal = w.way.journal in
+        finished_stands ring faces a start w.face so_far (subst (λ (x : Journal). ring.id.0 < length x.state.rings) (sym same) v.rings)
+        (subst (λ (x : Journal). OnWay ring faces a start x (PartFine ring) w.face so_far) (sym same) w.way)
 
     -- nothing is done at the ring
-    quiet : (did : Stepped) → did.view.journal.state ≡ view.journal.state → did.view.parts ≡ view.parts → did.frames ≡ [] → AllByRecursion (IsTold ring (seen faces a start)) did.lines
-        → changes_in did.work ≡ [] → StepStands ring faces a start did
-    quiet did state parts frames lines work = record {
+    quiet : (effects : Stepped) → effects.view.journal.state ≡ view.journal.state → effects.view.parts ≡ view.parts → effects.frames ≡ [] → AllByRecursion (IsTold ring (seen faces a start)) effects.lines
+        → changes_in effects.work ≡ [] → StepStands ring faces a start effects
+    quiet effects state parts frames lines work = record {
       face = start;
       reached = reach_none (acceptors ring) faces a start;
       stands = record {
@@ -242,8 +242,8 @@ module _ (config : Config) (ring : Ring) (faces : ℕ → Face Value) (a : ℕ) 
     unfolding step
     step_stands Ticks said = tick_stands
     step_stands (Takes frame) said =
-        ends start (takes_from config frame.from frame.body (begun_with view))
+        ends start (handles_from config frame.from frame.body (begun_with view))
         (from_goes config ring faces a start view.journal at_seats all local frame.from frame.body said start (begun_with view) (begun view refl refl))
     step_stands (Leads fr) said =
-        ends start (at_acceptor (λ r part b. does config r (leads r b.view.link part) b) (part_at view fr) (begun_with view))
+        ends start (at_acceptor (λ r part b. applies_effects config r (leads r b.view.link part) b) (part_at view fr) (begun_with view))
         (lead_goes config ring faces a start view.journal at_seats all local fr start (begun_with view) (begun view refl refl))

@@ -9,11 +9,11 @@ use Rattle.mrp_config.specs.declared.tables.RingTable.{RingTable}
 use Rattle.mrp_config.specs.declared.tables.PartitionTable.{PartitionTable}
 use Rattle.vote_state.specs.State.{State, ring_at}
 use Rattle.vote_journal.specs.Journal.{Journal}
-use Rattle.checkpoint.specs.Checks.{Checks}
+use Rattle.checkpoint.specs.Checkpoints.{Checkpoints}
 use Rattle.ring_reach.proofs.Reaching.{reach_none}
 use Rattle.protocol.specs.Parts.{Ring}
 use Rattle.protocol.specs.Rings.{ring_of, is_member}
-use Rattle.protocol.specs.Node.{Acting, RingPart, Recovering, begun_with, part_in}
+use Rattle.protocol.specs.Node.{StepSoFar, RingPart, Recovering, begun_with, part_in}
 use Rattle.protocol.specs.Opening.{partition_of, part_of_ring, parts_of, view_of, begins_first, opened}
 use Rattle.beside_rings.specs.Beside.{Untouched}
 use Rattle.beside_rings.proofs.Following.{Untouched-refl}
@@ -48,11 +48,11 @@ new_there config id state table (t ∷ tables) only p e = by_member (is_member (
         by_id false is here = later here
 
 module _ (config : Config) (id : NodeId) (table : RingTable) (only : IsTheOnly table config.rings) (faces : ℕ → Face Value) (a : ℕ) (start : Face Value)
-    (journal : Journal) (checks : Checks) (rings : table.id.0 < length journal.state.rings) (kept : KeptTies start (ring_at journal.state table.id)) where
+    (journal : Journal) (checkpoints : Checkpoints) (rings : table.id.0 < length journal.state.rings) (kept : KeptTies start (ring_at journal.state table.id)) where
   abbrev ring : Ring
   ring = ring_of config id table
 
-  begun : OnWay (ring_of config id table) faces a start journal (PartFine (ring_of config id table)) start (begun_with (view_of config id journal checks))
+  begun : OnWay (ring_of config id table) faces a start journal (PartFine (ring_of config id table)) start (begun_with (view_of config id journal checkpoints))
   begun = record {
     reached = reach_none (acceptors ring) faces a start;
     journal = refl;
@@ -71,18 +71,18 @@ module _ (config : Config) (id : NodeId) (table : RingTable) (only : IsTheOnly t
         });
   }
 
-  begins_untouched : (o : Option PartitionTable) (acting : Acting) → Untouched acting (begins_first config o acting)
-  begins_untouched None acting = Untouched-refl acting
-  begins_untouched (Some partition) acting =
-      untouched_begins config (record { partition = partition; attempts = 0; stage = Recovering (record { number = 0; ticks = 0; answers = []; choice = None }) }) acting
+  begins_untouched : (o : Option PartitionTable) (so_far : StepSoFar) → Untouched so_far (begins_first config o so_far)
+  begins_untouched None so_far = Untouched-refl so_far
+  begins_untouched (Some partition) so_far =
+      untouched_begins config (record { partition = partition; attempts = 0; stage = Recovering (record { number = 0; ticks = 0; answers = []; choice = None }) }) so_far
 
-  pub opened_stands : StepStands (ring_of config id table) faces a start (opened config id journal checks)
+  pub opened_stands : StepStands (ring_of config id table) faces a start (opened config id journal checkpoints)
   unfolding opened
   opened_stands =
-      let first : Acting = begun_with (view_of config id journal checks) in
-      let acting : Acting = begins_first config (partition_of config.partitions id) first in
-      let l : Leaves ring first acting = untouched_leaves ring first (begins_first config (partition_of config.partitions id) first) (begins_untouched (partition_of config.partitions id) first) in
-      let way : OnWay ring faces a start journal (PartFine ring) start acting = way_leaves ring faces a start journal (PartFine ring) (PartFine-same ring) start first acting l begun in
-      let same : acting.view.journal ≡ journal = l.journal in
-      way_finished ring faces a start start acting (subst (λ (x : Journal). ring.id.0 < length x.state.rings) (sym same) rings)
-      (subst (λ (x : Journal). OnWay ring faces a start x (PartFine ring) start acting) (sym same) way)
+      let first : StepSoFar = begun_with (view_of config id journal checkpoints) in
+      let so_far : StepSoFar = begins_first config (partition_of config.partitions id) first in
+      let l : Leaves ring first so_far = untouched_leaves ring first (begins_first config (partition_of config.partitions id) first) (begins_untouched (partition_of config.partitions id) first) in
+      let way : OnWay ring faces a start journal (PartFine ring) start so_far = way_leaves ring faces a start journal (PartFine ring) (PartFine-same ring) start first so_far l begun in
+      let same : so_far.view.journal ≡ journal = l.journal in
+      way_finished ring faces a start start so_far (subst (λ (x : Journal). ring.id.0 < length x.state.rings) (sym same) rings)
+      (subst (λ (x : Journal). OnWay ring faces a start x (PartFine ring) start so_far) (sym same) way)

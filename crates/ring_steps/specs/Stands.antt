@@ -31,14 +31,14 @@ EventSaid ring faces (Takes frame) = SaidBy ring faces frame.from frame.body
 EventSaid ring faces other = Unit {0}
 
 -- What a step makes: deeds that may be done, and a view and frames that stand for the face that they lead to.
-pub record StepStands (ring : Ring) (faces : ℕ → Face Value) (a : ℕ) (start : Face Value) (did : Stepped) : Type 0 where
+pub record StepStands (ring : Ring) (faces : ℕ → Face Value) (a : ℕ) (start : Face Value) (effects : Stepped) : Type 0 where
   pub face : Face Value
   pub reached : Reaches (acceptors ring) faces a start face
-  pub stands : ViewStands ring (seen faces a face) face did.view
-  pub frames : AllByRecursion (IsSaid ring (seen faces a face)) did.frames
-  pub lines : AllByRecursion (IsTold ring (seen faces a face)) did.lines
-  pub recorded : AreRecorded ring.id start face (changes_in did.work)
-  pub told : AreTold ring a start face did.frames
+  pub stands : ViewStands ring (seen faces a face) face effects.view
+  pub frames : AllByRecursion (IsSaid ring (seen faces a face)) effects.frames
+  pub lines : AllByRecursion (IsTold ring (seen faces a face)) effects.lines
+  pub recorded : AreRecorded ring.id start face (changes_in effects.work)
+  pub told : AreTold ring a start face effects.frames
 
 -- ---- a deployment
 

@@ -12,7 +12,7 @@ ghost use Rattle.mrp_config.specs.Config.{Config};
 ghost use Rattle.mrp_config.specs.declared.tables.RingTable.{RingTable};
 ghost use Rattle.vote_state.specs.State.{ring_at};
 ghost use Rattle.vote_journal.specs.Journal.{Journal};
-ghost use Rattle.checkpoint.specs.Checks.{Checks};
+ghost use Rattle.checkpoint.specs.Checkpoints.{Checkpoints};
 ghost use Rattle.ring_safety.specs.Faces.{Face};
 ghost use Rattle.ring_safety.specs.Invariant.{Local};
 ghost use Rattle.ring_reach.specs.Reach.{seen};
@@ -38,6 +38,6 @@ pub fn a_step_stands()
 /// A node that opens on a journal that stands for its face has a view that does: it is Idle, and it has learned nothing.
 pub fn an_opening_stands()
     ensures { (config : Config) (id : NodeId) (table : RingTable) → IsTheOnly table config.rings → (faces : ℕ → Face Value) (a : ℕ) (start : Face Value)
-        (journal : Journal) (checks : Checks) → table.id.0 < length journal.state.rings → KeptTies start (ring_at journal.state table.id)
-        → StepStands (ring_of config id table) faces a start (opened config id journal checks) }
+        (journal : Journal) (checkpoints : Checkpoints) → table.id.0 < length journal.state.rings → KeptTies start (ring_at journal.state table.id)
+        → StepStands (ring_of config id table) faces a start (opened config id journal checkpoints) }
 {}

@@ -10,7 +10,7 @@ use Rattle.frames.specs.declared.sent.Sent.{Sent}
 use Rattle.ring_safety.specs.Faces.{Promise, owner}
 use Rattle.ring_tables.specs.Ties.{IsToldIn, AreTold}
 use Rattle.ring_tables.proofs.More.{told_more, has_second}
-use Rattle.ring_tables.proofs.Doing.{done_frames, told_votes}
+use Rattle.ring_tables.proofs.Effects.{done_frames, told_votes}
 use Rattle.std.proofs.Common.{◌%◌, ◌||◌, get_or}
 use Rattle.std.specs.Prelude.{◌==◌}
 use Rattle.protocol.specs.Rings.{is_own}
@@ -32,11 +32,11 @@ use Rattle.plain_model.proofs.Pages.{front-longest}
 use Rattle.quorums.specs.Groups.{Has}
 use Rattle.ring_reach.specs.Reach.{seen, proposal, Voting}
 use Rattle.ring_reach.proofs.Reaching.{reach_one, Local-reach, seen_more, seen_from, seen_own, votes_range}
-use Rattle.protocol.specs.Parts.{Ring, Part, Did}
+use Rattle.protocol.specs.Parts.{Ring, Part, Effects}
 use Rattle.protocol.specs.Rings.{is_node, owner_of, position_of, majority_of, has_bit, with_bit, next_acceptor, next_member, sends}
-use Rattle.protocol.specs.Doing.{nothing_done, with_frames}
+use Rattle.protocol.specs.Effects.{no_effects, with_frames}
 use Rattle.protocol.specs.Learner.{decided_of}
-use Rattle.protocol.specs.Acceptor.{promises, votes_for, page_room, votes_page, page_end, promise_of, tells_promise, refuses, tells_trim, prepares, first_decide, decides, goes_on, accepts_at, accepts}
+use Rattle.protocol.specs.Acceptor.{promises, promises_anew, votes_anew, page_room, votes_page, page_end, promise_of, tells_promise, refuses, tells_trim, prepares, first_decide, decides, decides_or_forwards, accepts_at, accepts}
 use Rattle.ring_safety.specs.Faces.{Face, Vote, page}
 use Rattle.ring_safety.specs.Deeds.{Promises, done}
 use Rattle.ring_safety.specs.Rules.{Grows}
@@ -51,8 +51,8 @@ use Rattle.ring_kept.specs.Pages.{front_end}
 use Rattle.ring_kept.proofs.Pages.{front_order, front_ended, front_tells}
 use Rattle.ring_tables.specs.Ties.{acceptors, IsRangeChosen, RoleTies, PartTies, PromiseSaid, AcceptSaid, BodySaid, IsSaid}
 use Rattle.ring_tables.proofs.More.{RoleTies-more, AcceptSaid-more}
-use Rattle.ring_tables.specs.Done.{DidTies, After}
-use Rattle.ring_tables.proofs.Doing.{said_sends, did_none, did_frames, did_learned, done_on, did_promises, done_votes, promises_promise, promises_trim, votes_role}
+use Rattle.ring_tables.specs.Done.{EffectsTie, After}
+use Rattle.ring_tables.proofs.Effects.{said_sends, votes_frames, effects_none, effects_frames, effects_learned, done_on, effects_promises, effects_promises_anew, done_votes_anew, promised_anew, promises_trim, votes_role}
 
 -- ---- a page of votes
 
@@ -149,92 +149,92 @@ some_same e = cc
 
 module _ (ring : Ring) (faces : ℕ → Face Value) (a : ℕ) (seat : position_of ring ring.own ≡ Some a) (within : a < acceptors ring)
     (all : (k : ℕ) → Local (acceptors ring) faces k (faces k)) (start : Face Value) (local : Local (acceptors ring) faces a start) (kept : RingState) where
-  local_at : (f : Face Value) (did : Did) → DidTies ring faces a start kept f did → Local (acceptors ring) faces a f
-  local_at f did t = Local-reach (acceptors ring) faces a all start f local t.done.reached
+  local_at : (f : Face Value) (effects : Effects) → EffectsTie ring faces a start kept f effects → Local (acceptors ring) faces a f
+  local_at f effects t = Local-reach (acceptors ring) faces a all start f local t.done.reached
 
-  stays : (f : Face Value) (did : Did) → DidTies ring faces a start kept f did → After ring faces a start kept f did
-  stays f did t = record { face = f; grows = Grows-refl f; ties = t }
+  stays : (f : Face Value) (effects : Effects) → EffectsTie ring faces a start kept f effects → After ring faces a start kept f effects
+  stays f effects t = record { face = f; grows = Grows-refl f; ties = t }
 
-  then_after : (f g : Face Value) (did : Did) → Grows f g → After ring faces a start kept g did → After ring faces a start kept f did
-  then_after f g did grows r = record { face = r.face; grows = Grows-trans grows r.grows; ties = r.ties }
+  then_after : (f g : Face Value) (effects : Effects) → Grows f g → After ring faces a start kept g effects → After ring faces a start kept f effects
+  then_after f g effects grows r = record { face = r.face; grows = Grows-trans grows r.grows; ties = r.ties }
 
   -- ---- a promise is told
 
-  pub did_tells : (f : Face Value) (did : Did) (to : NodeId) (ballot lo : ℕ) → (to.0 ≡ ring.own.0 → owner (acceptors ring) ballot ≡ a) → did.part.kept.promise ≡ ballot
-      → DidTies ring faces a start kept f did → After ring faces a start kept f (tells_promise ring to ballot lo did)
-  did_tells f did to ballot lo mine same t =
-      let high : ℕ = page_end (rest f did.part.kept lo t.done.kept (local_at f did t).held_untrimmed) in
+  pub effects_tells : (f : Face Value) (effects : Effects) (to : NodeId) (ballot lo : ℕ) → (to.0 ≡ ring.own.0 → owner (acceptors ring) ballot ≡ a) → effects.part.kept.promise ≡ ballot
+      → EffectsTie ring faces a start kept f effects → After ring faces a start kept f (tells_promise ring to ballot lo effects)
+  effects_tells f effects to ballot lo mine same t =
+      let high : ℕ = page_end (rest f effects.part.kept lo t.done.kept (local_at f effects t).held_untrimmed) in
       let g : Face Value = done (Promises ballot lo high) f in
-      let votes : List Voted = votes_page (ranges_of (entries_from (max lo did.part.kept.trim) did.part.kept.votes)) in
-      let tied : f.promise ≡ did.part.kept.promise = t.done.kept.promise in
+      let votes : List Voted = votes_page (ranges_of (entries_from (max lo effects.part.kept.trim) effects.part.kept.votes)) in
+      let tied : f.promise ≡ effects.part.kept.promise = t.done.kept.promise in
       let may : f.promise ≤ ballot = omega arith in
       let grows : Grows f g = Grows-done (acceptors ring) faces a f (Promises ballot lo high) may in
-      let said : BodySaid ring (seen faces a g) ring.own (promise_of ring ballot lo did.part.kept) =
-      λ e k at. subst (λ x. PromiseSaid (seen faces a g x) ballot lo high did.part.kept.trim votes) (some_same (sym seat ∙ at))
-      (subst (λ x. PromiseSaid x ballot lo high did.part.kept.trim votes) (sym (seen_own (acceptors ring) faces a g))
-      (page_said f did.part.kept lo t.done.kept (local_at f did t).held_untrimmed ballot)) in
+      let said : BodySaid ring (seen faces a g) ring.own (promise_of ring ballot lo effects.part.kept) =
+      λ e k at. subst (λ x. PromiseSaid (seen faces a g x) ballot lo high effects.part.kept.trim votes) (some_same (sym seat ∙ at))
+      (subst (λ x. PromiseSaid x ballot lo high effects.part.kept.trim votes) (sym (seen_own (acceptors ring) faces a g))
+      (page_said f effects.part.kept lo t.done.kept (local_at f effects t).held_untrimmed ballot)) in
       record {
         face = g;
         grows = grows;
         ties = record {
-          done = done_frames ring faces a start kept g did (sends ring (Some to) (promise_of ring ballot lo did.part.kept))
-              (said_sends ring (seen faces a g) (Some to) (promise_of ring ballot lo did.part.kept) said)
-              (done_on ring faces a start kept f g did (reach_one (acceptors ring) faces a f (Promises ballot lo high) may) grows t.done (λ c h. h)
-              (kept_said f did.part.kept ballot lo high same t.done.kept));
-          role = RoleTies-more (acceptors ring) (seen faces a f) (seen faces a g) (seen_more (acceptors ring) faces a f g grows) f g did.part.coordinator.role grows refl (sym (tied ∙ same)) t.role;
+          done = done_frames ring faces a start kept g effects (sends ring (Some to) (promise_of ring ballot lo effects.part.kept))
+              (said_sends ring (seen faces a g) (Some to) (promise_of ring ballot lo effects.part.kept) said)
+              (done_on ring faces a start kept f g effects (reach_one (acceptors ring) faces a f (Promises ballot lo high) may) grows t.done (λ c h. h)
+              (kept_said f effects.part.kept ballot lo high same t.done.kept));
+          role = RoleTies-more (acceptors ring) (seen faces a f) (seen faces a g) (seen_more (acceptors ring) faces a f g grows) f g effects.part.coordinator.role grows refl (sym (tied ∙ same)) t.role;
           told = told;
         };
       }
     where
       tails : List Voted
-      tails = rest f did.part.kept lo t.done.kept (local_at f did t).held_untrimmed
+      tails = rest f effects.part.kept lo t.done.kept (local_at f effects t).held_untrimmed
 
       new : Promise Value
       new = record {
         ballot = ballot;
         low = lo;
-        high = page_end (rest f did.part.kept lo t.done.kept (local_at f did t).held_untrimmed);
+        high = page_end (rest f effects.part.kept lo t.done.kept (local_at f effects t).held_untrimmed);
         trim = f.trim;
-        told = page f.votes lo (page_end (rest f did.part.kept lo t.done.kept (local_at f did t).held_untrimmed));
+        told = page f.votes lo (page_end (rest f effects.part.kept lo t.done.kept (local_at f effects t).held_untrimmed));
       }
 
       frame : Sent
-      frame = record { to = Node to; frame = record { from = Node ring.own; body = promise_of ring ballot lo did.part.kept } }
+      frame = record { to = Node to; frame = record { from = Node ring.own; body = promise_of ring ballot lo effects.part.kept } }
 
       -- its frame, but where the node itself is the ballot's owner
-      fresh : (b : Bool) → (to.0 == ring.own.0) ≡ b → (owner (acceptors ring) ballot ≡ a) ⊎ IsToldIn ring (did.frames ++ (if b || false then [] else frame ∷ [])) new
+      fresh : (b : Bool) → (to.0 == ring.own.0) ≡ b → (owner (acceptors ring) ballot ≡ a) ⊎ IsToldIn ring (effects.frames ++ (if b || false then [] else frame ∷ [])) new
       fresh true e = inl (mine (grind (arith, nat_tests)))
       fresh false e = inr (record {
         sent = frame;
-        there = has_second did.frames (frame ∷ []) frame (inl refl);
+        there = has_second effects.frames (frame ∷ []) frame (inl refl);
         by = refl;
-        votes = votes_page (ranges_of (entries_from (max lo did.part.kept.trim) did.part.kept.votes));
-        same = ap (λ x. body.Promise ring.id ballot lo (page_end (rest f did.part.kept lo t.done.kept (local_at f did t).held_untrimmed)) x
-            (votes_page (ranges_of (entries_from (max lo did.part.kept.trim) did.part.kept.votes)))) (sym t.done.kept.trim);
-        tells = tells f did.part.kept lo t.done.kept (local_at f did t).held_untrimmed;
+        votes = votes_page (ranges_of (entries_from (max lo effects.part.kept.trim) effects.part.kept.votes));
+        same = ap (λ x. body.Promise ring.id ballot lo (page_end (rest f effects.part.kept lo t.done.kept (local_at f effects t).held_untrimmed)) x
+            (votes_page (ranges_of (entries_from (max lo effects.part.kept.trim) effects.part.kept.votes)))) (sym t.done.kept.trim);
+        tells = tells f effects.part.kept lo t.done.kept (local_at f effects t).held_untrimmed;
       })
 
-      told : AreTold ring a start (done (Promises ballot lo (page_end (rest f did.part.kept lo t.done.kept (local_at f did t).held_untrimmed))) f)
-          (did.frames ++ sends ring (Some to) (promise_of ring ballot lo did.part.kept))
-      told p (inr h) lt = told_more ring a start f did.frames (sends ring (Some to) (promise_of ring ballot lo did.part.kept)) t.told p h lt
+      told : AreTold ring a start (done (Promises ballot lo (page_end (rest f effects.part.kept lo t.done.kept (local_at f effects t).held_untrimmed))) f)
+          (effects.frames ++ sends ring (Some to) (promise_of ring ballot lo effects.part.kept))
+      told p (inr h) lt = told_more ring a start f effects.frames (sends ring (Some to) (promise_of ring ballot lo effects.part.kept)) t.told p h lt
       told p (inl e) lt =
-          subst (λ (q : Promise Value). Has start.promises q ⊎ ((owner (acceptors ring) q.ballot ≡ a) ⊎ IsToldIn ring (did.frames ++ sends ring (Some to) (promise_of ring ballot lo did.part.kept)) q))
+          subst (λ (q : Promise Value). Has start.promises q ⊎ ((owner (acceptors ring) q.ballot ≡ a) ⊎ IsToldIn ring (effects.frames ++ sends ring (Some to) (promise_of ring ballot lo effects.part.kept)) q))
           (sym e) (inr (fresh (to.0 == ring.own.0) refl))
 
   -- ---- Prepare
 
   module _ (part : Part) (same : kept ≡ part.kept) (t : PartTies (acceptors ring) (seen faces a start) start part) where
-    none : DidTies ring faces a start kept start (nothing_done part)
-    none = did_none ring faces a start kept part t same
+    none : EffectsTie ring faces a start kept start (no_effects part)
+    none = effects_none ring faces a start kept part t same
 
     refused : (to : Option NodeId) (ballot : ℕ) → After ring faces a start kept start (refuses ring to ballot part)
     refused to ballot =
-        stays start (refuses ring to ballot part) (did_frames ring faces a start kept start (nothing_done part) (sends ring to (body.Refuse ring.id ballot part.kept.promise))
+        stays start (refuses ring to ballot part) (effects_frames ring faces a start kept start (no_effects part) (sends ring to (body.Refuse ring.id ballot part.kept.promise))
         (said_sends ring (seen faces a start) to (body.Refuse ring.id ballot part.kept.promise) tt) none)
 
     told_trim : (to : Option NodeId) → After ring faces a start kept start (tells_trim ring to part)
     told_trim to =
-        stays start (tells_trim ring to part) (did_frames ring faces a start kept start (nothing_done part) (sends ring to (body.Trimmed ring.id part.kept.trim))
+        stays start (tells_trim ring to part) (effects_frames ring faces a start kept start (no_effects part) (sends ring to (body.Trimmed ring.id part.kept.trim))
         (said_sends ring (seen faces a start) to (body.Trimmed ring.id part.kept.trim) tt) none)
 
     -- a ballot whose owner is this node
@@ -265,31 +265,31 @@ module _ (ring : Ring) (faces : ℕ → Face Value) (a : ℕ) (seat : position_o
     prepares_ties alone from ballot lo = go (not (is_node from (owner_of ring ballot))) (nat_lt ballot part.kept.promise) refl refl
       where
         go : (b c : Bool) → not (is_node from (owner_of ring ballot)) ≡ b → nat_lt ballot part.kept.promise ≡ c
-            → After ring faces a start kept start (if b then nothing_done part else if c then refuses ring (Some from) ballot part
-            else tells_promise ring from ballot lo (promises ring ballot (nothing_done part)))
-        go true c h e = stays start (nothing_done part) none
+            → After ring faces a start kept start (if b then no_effects part else if c then refuses ring (Some from) ballot part
+            else tells_promise ring from ballot lo (promises ring ballot (no_effects part)))
+        go true c h e = stays start (no_effects part) none
         go false true h e = refused (Some from) ballot
         go false false h e =
             let le : part.kept.promise ≤ ballot = grind (arith, nat_tests) in
-            let p : After ring faces a start kept start (promises ring ballot (nothing_done part)) = did_promises ring faces a start kept start (nothing_done part) ballot le none in
-            then_after start p.face (tells_promise ring from ballot lo (promises ring ballot (nothing_done part))) p.grows
-            (did_tells p.face (promises ring ballot (nothing_done part)) from ballot lo (own_ballot alone from ballot h) (promises_promise ring ballot (nothing_done part)) p.ties)
+            let p : After ring faces a start kept start (promises ring ballot (no_effects part)) = effects_promises ring faces a start kept start (no_effects part) ballot le none in
+            then_after start p.face (tells_promise ring from ballot lo (promises ring ballot (no_effects part))) p.grows
+            (effects_tells p.face (promises ring ballot (no_effects part)) from ballot lo (own_ballot alone from ballot h) refl p.ties)
 
   -- ---- a vote goes on
 
-  pub did_goes_on : (f : Face Value) (did : Did) (link : Link) (mask : ℕ) (vote : Voted) → AcceptSaid (acceptors ring) (seen faces a f) vote.ballot vote.lo vote.hi mask vote.value
-      → DidTies ring faces a start kept f did → DidTies ring faces a start kept f (goes_on ring link mask vote did)
-  did_goes_on f did link mask vote said t = go (nat_le (majority_of ring) (count_ones mask)) refl
+  pub effects_decides_or_forwards : (f : Face Value) (effects : Effects) (link : Link) (mask : ℕ) (vote : Voted) → AcceptSaid (acceptors ring) (seen faces a f) vote.ballot vote.lo vote.hi mask vote.value
+      → EffectsTie ring faces a start kept f effects → EffectsTie ring faces a start kept f (decides_or_forwards ring link mask vote effects)
+  effects_decides_or_forwards f effects link mask vote said t = go (nat_le (majority_of ring) (count_ones mask)) refl
     where
       go : (b : Bool) → nat_le (majority_of ring) (count_ones mask) ≡ b
-          → DidTies ring faces a start kept f (if b then decides ring link (decided_of vote) did
-          else with_frames (sends ring (next_acceptor ring link) (body.Accept ring.id vote.ballot vote.lo vote.hi mask vote.value)) did)
+          → EffectsTie ring faces a start kept f (if b then decides ring link (decided_of vote) effects
+          else with_frames (sends ring (next_acceptor ring link) (body.Accept ring.id vote.ballot vote.lo vote.hi mask vote.value)) effects)
       go false e =
-          did_frames ring faces a start kept f did (sends ring (next_acceptor ring link) (body.Accept ring.id vote.ballot vote.lo vote.hi mask vote.value))
+          effects_frames ring faces a start kept f effects (sends ring (next_acceptor ring link) (body.Accept ring.id vote.ballot vote.lo vote.hi mask vote.value))
           (said_sends ring (seen faces a f) (next_acceptor ring link) (body.Accept ring.id vote.ballot vote.lo vote.hi mask vote.value) (λ r. said)) t
       go true e =
-          did_learned ring faces a start kept f (with_frames (first_decide ring link (decided_of vote)) did) (decided_of vote) chosen
-          (did_frames ring faces a start kept f did (first_decide ring link (decided_of vote)) (first (nat_le 2 (length ring.members))) t)
+          effects_learned ring faces a start kept f (with_frames (first_decide ring link (decided_of vote)) effects) (decided_of vote) chosen
+          (effects_frames ring faces a start kept f effects (first_decide ring link (decided_of vote)) (first (nat_le 2 (length ring.members))) t)
         where
           chosen : IsRangeChosen (acceptors ring) (seen faces a f) (decided_of vote)
           chosen i x y = record {
@@ -313,14 +313,14 @@ module _ (ring : Ring) (faces : ℕ → Face Value) (a : ℕ) (seat : position_o
 
   module _ (link : Link) (part : Part) (same : kept ≡ part.kept) (t : PartTies (acceptors ring) (seen faces a start) start part)
       (mask : ℕ) (vote : Voted) (said : AcceptSaid (acceptors ring) faces vote.ballot vote.lo vote.hi mask vote.value) where
-    abbrev first : Did
-    first = promises ring vote.ballot (nothing_done part)
+    abbrev first : Effects
+    first = promises_anew ring vote.ballot (no_effects part)
 
-    voted : (f : Face Value) → DidTies ring faces a start kept f first → part.kept.trim ≤ vote.lo
-        → After ring faces a start kept f (goes_on ring link (with_bit mask a) vote (votes_for ring vote first))
+    voted : (f : Face Value) → EffectsTie ring faces a start kept f first → part.kept.trim ≤ vote.lo
+        → After ring faces a start kept f (decides_or_forwards ring link (with_bit mask a) vote (votes_anew ring vote first))
     voted f p above =
-        let promised : f.promise ≡ vote.ballot = p.done.kept.promise ∙ promises_promise ring vote.ballot (nothing_done part) in
-        let trim : f.trim ≡ part.kept.trim = p.done.kept.trim ∙ promises_trim ring vote.ballot (nothing_done part) in
+        let promised : f.promise ≡ vote.ballot = p.done.kept.promise ∙ promised_anew ring vote.ballot (no_effects part) in
+        let trim : f.trim ≡ part.kept.trim = p.done.kept.trim ∙ promises_trim ring vote.ballot (no_effects part) in
         let v : Voting (acceptors ring) faces a f vote.ballot vote.lo (vote.hi - vote.lo) vote.value =
         votes_range (acceptors ring) faces a (vote.hi - vote.lo) f vote.ballot vote.lo vote.value promised (omega arith) (λ i x y. inl (said.proposed i x (omega arith))) in
         let g : Face Value = v.face in
@@ -342,11 +342,11 @@ module _ (ring : Ring) (faces : ℕ → Face Value) (a : ℕ) (seat : position_o
         record {
           face = g;
           grows = v.voted.grows;
-          ties = did_goes_on g (votes_for ring vote first) link (with_bit mask a) vote next (record {
-            done = done_votes ring faces a start kept f g first vote v.reached v.voted said.ended (local_at f first p) p.done;
+          ties = effects_decides_or_forwards g (votes_anew ring vote first) link (with_bit mask a) vote next (record {
+            done = done_votes_anew ring faces a start kept f g first vote v.reached v.voted said.ended (local_at f first p) p.done;
             role = subst (λ r. RoleTies (acceptors ring) (seen faces a g) g r) (sym (votes_role ring vote first))
                 (RoleTies-more (acceptors ring) (seen faces a f) (seen faces a g) (seen_more (acceptors ring) faces a f g v.voted.grows) f g first.part.coordinator.role v.voted.grows v.leads v.voted.promise p.role);
-            told = told_votes ring faces a start kept f g first vote v.voted.promises p.told;
+            told = subst (λ (l : List Sent). AreTold ring a start g l) (sym (votes_frames ring vote first)) (told_votes ring faces a start kept f g first.frames v.voted.promises p.told);
           });
         }
 
@@ -356,16 +356,16 @@ module _ (ring : Ring) (faces : ℕ → Face Value) (a : ℕ) (seat : position_o
         go : (b c d : Bool) → nat_lt vote.ballot part.kept.promise ≡ b → nat_lt vote.lo part.kept.trim ≡ c
             → After ring faces a start kept start (if b then refuses ring (owner_of ring vote.ballot) vote.ballot part
             else if c then tells_trim ring (owner_of ring vote.ballot) part
-            else if d then nothing_done part
-            else goes_on ring link (with_bit mask a) vote (votes_for ring vote first))
+            else if d then no_effects part
+            else decides_or_forwards ring link (with_bit mask a) vote (votes_anew ring vote first))
         go true c d e h = refused part same t (owner_of ring vote.ballot) vote.ballot
         go false true d e h = told_trim part same t (owner_of ring vote.ballot)
-        go false false true e h = stays start (nothing_done part) (none part same t)
+        go false false true e h = stays start (no_effects part) (none part same t)
         go false false false e h =
             let le : part.kept.promise ≤ vote.ballot = grind (arith, nat_tests) in
             let above : part.kept.trim ≤ vote.lo = grind (arith, nat_tests) in
-            let p : After ring faces a start kept start first = did_promises ring faces a start kept start (nothing_done part) vote.ballot le (none part same t) in
-            then_after start p.face (goes_on ring link (with_bit mask a) vote (votes_for ring vote first)) p.grows (voted p.face p.ties above)
+            let p : After ring faces a start kept start first = effects_promises_anew ring faces a start kept start (no_effects part) vote.ballot le (none part same t) in
+            then_after start p.face (decides_or_forwards ring link (with_bit mask a) vote (votes_anew ring vote first)) p.grows (voted p.face p.ties above)
 
   pub accepts_ties : (link : Link) (part : Part) → kept ≡ part.kept → PartTies (acceptors ring) (seen faces a start) start part
       → (ballot lo hi mask : ℕ) (value : Value) → AcceptSaid (acceptors ring) faces ballot lo hi mask value

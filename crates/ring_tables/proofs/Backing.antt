@@ -14,6 +14,7 @@ use Rattle.ring_reach.proofs.Reaching.{promised_seen}
 use Rattle.protocol.specs.Parts.{Ring}
 use Rattle.protocol.specs.Ballots.{covered_to}
 use Rattle.protocol.proofs.CoverLemmas.{covers}
+use Rattle.protocol.proofs.OfferLemmas.{Agrees}
 use Rattle.ring_safety.specs.Faces.{Face, Vote, rank}
 use Rattle.ring_safety.specs.Deeds.{IsDue, Backing}
 use Rattle.ring_kept.specs.Kept.{told_of}
@@ -57,10 +58,6 @@ covered_ended ring covered trim i sized ended from lt =
 no_rank : (o : Option (Vote Value)) → rank o ≤ 0 → o ≡ None
 no_rank None le = refl
 no_rank (Some v) le = absurd (omega arith)
-
--- a value agrees with what is reported at an instance
-abbrev pub Agrees : List (ℕ × Cast) → ℕ → Value → Type 0
-Agrees reports i value = (cast : Cast) → value_at i reports ≡ Some cast → value ≡ cast.value
 
 module _ (ring : Ring) (faces : ℕ → Face Value) (a : ℕ) (f : Face Value) (trim ballot : ℕ) (covered : List ℕ) (reports : List (ℕ × Cast))
     (r : Reports (acceptors ring) (seen faces a f) trim ballot covered reports) (sized : length covered ≡ acceptors ring) (i : ℕ) (value : Value) where

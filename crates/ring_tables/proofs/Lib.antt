@@ -1,5 +1,5 @@
 pub mod More
-pub mod Doing
+pub mod Effects
 pub mod Acceptor
 pub mod Reporting
 pub mod Backing

@@ -11,10 +11,8 @@ use Rattle.vote_state.specs.declared.cast.Cast.{Cast}
 use Rattle.vote_state.specs.Ranges.{cast_of, cast_at, AreInOrderFrom}
 use Rattle.vote_state.proofs.MaximalLemmas.{cast_within, cast_below, cast_above}
 use Rattle.quorums.specs.Groups.{Has}
-use Rattle.protocol.specs.Learner.{with_met}
 use Rattle.protocol.specs.Ballots.{higher, with_reports}
-use Rattle.protocol.specs.Meaning.{Meets}
-use Rattle.protocol.proofs.EntryLemmas.{meets}
+use Rattle.protocol.proofs.OfferLemmas.{met, is_met}
 use Rattle.ring_safety.specs.Faces.{Promise, Face, Vote, rank}
 use Rattle.ring_safety.specs.Deeds.{Serves}
 use Rattle.ring_kept.specs.Kept.{told_of}
@@ -57,33 +55,23 @@ merged_from (Some held) (Some new) cast e = go (nat_lt held.ballot new.ballot) e
     go false e = inl e
 
 module _ (from : ℕ) where
-  abbrev met : Voted → List (ℕ × Cast) → List (ℕ × Cast)
-  met vote reports = with_met higher (max vote.lo from) vote.hi (cast_of vote) reports
-
-  is_met : (vote : Voted) (reports : List (ℕ × Cast)) → IsIncreasingFrom 0 reports → Meets higher (max vote.lo from) vote.hi (cast_of vote) reports (met vote reports)
-  is_met vote reports p = meets higher (cast_of vote) (max vote.lo from) vote.hi reports p
-
-  pub reports_ordered : (votes : List Voted) (reports : List (ℕ × Cast)) → IsIncreasingFrom 0 reports → IsIncreasingFrom 0 (with_reports from votes reports)
-  reports_ordered [] reports p = p
-  reports_ordered (vote ∷ votes) reports p = reports_ordered votes (met vote reports) (is_met vote reports p).in_order
-
   pub reports_below : (votes : List Voted) (reports : List (ℕ × Cast)) (i : ℕ) → IsIncreasingFrom 0 reports → i < from → value_at i (with_reports from votes reports) ≡ value_at i reports
   reports_below [] reports i p below = refl
   reports_below (vote ∷ votes) reports i p below =
-      reports_below votes (met vote reports) i (is_met vote reports p).in_order below ∙ (is_met vote reports p).below i (omega arith)
+      reports_below votes (met from vote reports) i (is_met from vote reports p).in_order below ∙ (is_met from vote reports p).below i (omega arith)
 
   pub reports_at : (k : ℕ) (votes : List Voted) (reports : List (ℕ × Cast)) (i : ℕ) → AreInOrderFrom k votes → IsIncreasingFrom 0 reports → from ≤ i
       → value_at i (with_reports from votes reports) ≡ merged (value_at i reports) (cast_at i votes)
   reports_at k [] reports i order p x = refl
   reports_at k (vote ∷ votes) reports i order p x =
-      let m = is_met vote reports p in
-      let more = reports_at vote.hi votes (met vote reports) i order.2 m.in_order x in
+      let m = is_met from vote reports p in
+      let more = reports_at vote.hi votes (met from vote reports) i order.2 m.in_order x in
       elim (cases_lt i vote.lo) [
         | inl below ↦
             more ∙ ap (λ o. merged o (cast_at i votes)) (m.below i (omega arith)) ∙ ap (λ c. merged (value_at i reports) c) (sym (cast_below vote votes i below))
         | inr at ↦ elim (cases_lt i vote.hi) [
           | inl to ↦
-              more ∙ ap (λ c. merged (value_at i (met vote reports)) c) (cast_before vote.hi votes i order.2 to) ∙ m.within i (omega arith) to
+              more ∙ ap (λ c. merged (value_at i (met from vote reports)) c) (cast_before vote.hi votes i order.2 to) ∙ m.within i (omega arith) to
               ∙ ap (λ c. merged (value_at i reports) c) (sym (cast_within vote votes i at to))
           | inr past ↦
               more ∙ ap (λ o. merged o (cast_at i votes)) (m.above i past) ∙ ap (λ c. merged (value_at i reports) c) (sym (cast_above vote votes i past))

@@ -5,7 +5,7 @@ use Rattle.mrp_types.specs.declared.id.NodeId.{NodeId}
 use Rattle.mrp_types.specs.declared.value.Value.{Value}
 use Rattle.vote_state.specs.declared.ring.RingState.{RingState}
 use Rattle.ring_reach.specs.Reach.{Reaches, seen}
-use Rattle.protocol.specs.Parts.{Ring, Part, Did}
+use Rattle.protocol.specs.Parts.{Ring, Part, Effects}
 use Rattle.protocol.specs.Rings.{is_own, position_of}
 use Rattle.ring_tables.specs.Ties.{acceptors, IsRangeChosen, RoleTies, LearnerTies, PartTies, IsSaid, AreRecorded, AreTold}
 use Rattle.ring_safety.specs.Faces.{Face}
@@ -16,26 +16,26 @@ use Rattle.ring_kept.specs.Kept.{KeptTies, kept_after}
 -- ---- what a rule has made
 
 -- all but the role of the coordinator
-pub record DoneTies (ring : Ring) (faces : ℕ → Face Value) (a : ℕ) (start : Face Value) (base : RingState) (f : Face Value) (did : Did) : Type 0 where
+pub record DoneTies (ring : Ring) (faces : ℕ → Face Value) (a : ℕ) (start : Face Value) (base : RingState) (f : Face Value) (effects : Effects) : Type 0 where
   pub reached : Reaches (acceptors ring) faces a start f
-  pub kept : KeptTies f did.part.kept
-  pub learner : LearnerTies (acceptors ring) (seen faces a f) did.part.learner
-  pub changes : kept_after ring.id did.changes base ≡ did.part.kept
-  pub frames : AllByRecursion (IsSaid ring (seen faces a f)) did.frames
-  pub learned : AllByRecursion (IsRangeChosen (acceptors ring) (seen faces a f)) did.learned
-  pub recorded : AreRecorded ring.id start f did.changes
+  pub kept : KeptTies f effects.part.kept
+  pub learner : LearnerTies (acceptors ring) (seen faces a f) effects.part.learner
+  pub changes : kept_after ring.id effects.changes base ≡ effects.part.kept
+  pub frames : AllByRecursion (IsSaid ring (seen faces a f)) effects.frames
+  pub learned : AllByRecursion (IsRangeChosen (acceptors ring) (seen faces a f)) effects.learned
+  pub recorded : AreRecorded ring.id start f effects.changes
 
 -- From `start`, with `kept` of the ring, the rule has come to the face f and made this.
-pub record DidTies (ring : Ring) (faces : ℕ → Face Value) (a : ℕ) (start : Face Value) (kept : RingState) (f : Face Value) (did : Did) : Type 0 where
-  pub done : DoneTies ring faces a start kept f did
-  pub role : RoleTies (acceptors ring) (seen faces a f) f did.part.coordinator.role
-  pub told : AreTold ring a start f did.frames
+pub record EffectsTie (ring : Ring) (faces : ℕ → Face Value) (a : ℕ) (start : Face Value) (kept : RingState) (f : Face Value) (effects : Effects) : Type 0 where
+  pub done : DoneTies ring faces a start kept f effects
+  pub role : RoleTies (acceptors ring) (seen faces a f) f effects.part.coordinator.role
+  pub told : AreTold ring a start f effects.frames
 
 -- and to some face that f grows into
-pub record After (ring : Ring) (faces : ℕ → Face Value) (a : ℕ) (start : Face Value) (kept : RingState) (f : Face Value) (did : Did) : Type 0 where
+pub record After (ring : Ring) (faces : ℕ → Face Value) (a : ℕ) (start : Face Value) (kept : RingState) (f : Face Value) (effects : Effects) : Type 0 where
   pub face : Face Value
   pub grows : Grows f face
-  pub ties : DidTies ring faces a start kept face did
+  pub ties : EffectsTie ring faces a start kept face effects
 
 -- ---- where a rule begins
 

@@ -13,7 +13,7 @@ use Rattle.text_lines.proofs.Places.{lines_of_at, lines_at}
 use Rattle.text_lines.proofs.WordLaws.{all_read, all_was}
 use Rattle.mrp_types.proofs.TestLemmas.{not_above, at_most}
 use Rattle.command_codec.specs.declared.command.Command.{Command}
-use Rattle.command_codec.specs.declared.command.Command.TheVariants.{Append, Multi, ReadLog, TrimLog, Get, Scan, Update, Insert, Delete}
+use Rattle.command_codec.specs.declared.command.Command.TheVariants.{Append, Multi, ReadLog, TrimLog, Get, Scan, Update, Insert, Delete, Swap}
 use Rattle.mrp_config.specs.Config.{Config}
 use Rattle.schedule.specs.declared.fault.FaultKind.{FaultKind}
 use Rattle.schedule.specs.declared.fault.FaultKind.TheVariants.{Route, Cut, TooMany}
@@ -35,6 +35,7 @@ some_words (Scan from to) = tt
 some_words (Update key value) = tt
 some_words (Insert key value) = tt
 some_words (Delete key) = tt
+some_words (Swap key old new) = tt
 
 abbrev pub command_line : Command → List ℕ
 command_line command = joined (command_words command)

@@ -15,11 +15,11 @@ use Rattle.text_lines.proofs.WordLaws.{Words, Took, Entry, AreEntries, alone, on
 use Rattle.mrp_types.specs.declared.id.LogId.{LogId}
 use Rattle.mrp_types.proofs.TestLemmas.{both, below as is_less}
 use Rattle.command_codec.specs.declared.command.Command.{Command}
-use Rattle.command_codec.specs.declared.command.Command.TheVariants.{Append, Multi, ReadLog, TrimLog, Get, Scan, Update, Insert, Delete}
+use Rattle.command_codec.specs.declared.command.Command.TheVariants.{Append, Multi, ReadLog, TrimLog, Get, Scan, Update, Insert, Delete, Swap}
 use Rattle.command_codec.specs.Valid.{rises_from, IsCommand}
 use Rattle.mrp_config.specs.Routing.{is_below}
 use Rattle.schedule.specs.Spelling.{command_words, logs_text, IsWithin, AreBytes, AreLogs, IsAsked}
-use Rattle.schedule.specs.Reading.{WordReader, within, any_number, log_word, logs_word, bytes_word, append_at, multi_at, read_at, trimlog_at, get_at, are_ends, scan_at, update_at, insert_at, delete_at, commands_on_keys, commands, command_at}
+use Rattle.schedule.specs.Reading.{WordReader, within, any_number, log_word, logs_word, bytes_word, append_at, multi_at, read_at, trimlog_at, get_at, are_ends, scan_at, update_at, insert_at, delete_at, swap_at, commands_on_keys, commands, command_at}
 use Rattle.schedule.proofs.FieldLaws.{any, number, bytes, logs}
 
 -- ---- words
@@ -57,7 +57,7 @@ two_ends = tested_words Range are_ends _ _ _ (two ends ends)
 -- ---- what is spelled is read
 
 command_read : (command : Command) (rest : List (List ℕ)) → IsAsked command → command_at (command_words command ++ rest) ≡ Ok (command, rest)
-unfolding command_at commands_on_keys append_at multi_at read_at trimlog_at get_at scan_at update_at insert_at delete_at
+unfolding command_at commands_on_keys append_at multi_at read_at trimlog_at get_at scan_at update_at insert_at delete_at swap_at
 command_read (Append log value) rest is = shown_read _ _ _ _ (two one_log values) (log.0, value) rest is
 command_read (Multi ls value) rest is = shown_read _ _ _ _ (two some_logs values) (ls, value) rest is
 command_read (ReadLog log position) rest is = shown_read _ _ _ _ (two one_log any_numbers) (log.0, position) rest is
@@ -67,6 +67,7 @@ command_read (Scan from to) rest is = shown_read _ _ _ _ two_ends (from, to) res
 command_read (Update key value) rest is = shown_read _ _ _ _ (two keys values) (key, value) rest is
 command_read (Insert key value) rest is = shown_read _ _ _ _ (two keys values) (key, value) rest is
 command_read (Delete key) rest is = shown_read _ _ _ _ keys key rest is
+command_read (Swap key old new) rest is = shown_read _ _ _ _ (two keys (two values values)) (key, (old, new)) rest is
 
 -- ---- what is read is spelled so
 
@@ -77,14 +78,17 @@ entry key {fields = fields} {spell = spell} {Is = Is} view law spelled is =
     viewed_was (key ∷ []) fields spell Is view command_words IsAsked law (record { spelled = spelled; is = is })
 
 key_entries : AreEntries command_words IsAsked commands_on_keys
-unfolding commands_on_keys get_at scan_at update_at insert_at delete_at
+unfolding commands_on_keys get_at scan_at update_at insert_at delete_at swap_at
 key_entries = (
   entry (codes "get") _ keys (λ a. refl) (λ a is. is),
   (
     entry (codes "scan") _ two_ends (λ a. refl) (λ a is. is),
     (
       entry (codes "update") _ (two keys values) (λ a. refl) (λ a is. is),
-      (entry (codes "insert") _ (two keys values) (λ a. refl) (λ a is. is), (entry (codes "delete") _ keys (λ a. refl) (λ a is. is), tt)),
+      (
+        entry (codes "insert") _ (two keys values) (λ a. refl) (λ a is. is),
+        (entry (codes "delete") _ keys (λ a. refl) (λ a is. is), (entry (codes "swap") _ (two keys (two values values)) (λ a. refl) (λ a is. is), tt)),
+      ),
     ),
   ),
 )
@@ -119,6 +123,7 @@ command_lacks byte low (Scan from to) is = (lacks_low byte low (codes "scan") re
 command_lacks byte low (Update key value) is = (lacks_low byte low (codes "update") refl, (two keys values).lacks byte low (key, value) is)
 command_lacks byte low (Insert key value) is = (lacks_low byte low (codes "insert") refl, (two keys values).lacks byte low (key, value) is)
 command_lacks byte low (Delete key) is = (lacks_low byte low (codes "delete") refl, keys.lacks byte low key is)
+command_lacks byte low (Swap key old new) is = (lacks_low byte low (codes "swap") refl, (two keys (two values values)).lacks byte low (key, (old, new)) is)
 
 pub command_law : Words command_at command_words IsAsked
 command_law = record { read = command_read; was = command_was; lacks = command_lacks }
@@ -166,3 +171,4 @@ asked_is_command (Scan from to) is = (is.0.0.1.1, is.0.1.1.1, range_of from to i
 asked_is_command (Update key value) is = (is.0.1, is.1.1.1)
 asked_is_command (Insert key value) is = (is.0.1, is.1.1.1)
 asked_is_command (Delete key) is = is.1
+asked_is_command (Swap key old new) is = (is.0.1, is.1.0.1.1, is.1.1.1.1)

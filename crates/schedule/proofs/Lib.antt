@@ -4,3 +4,5 @@ pub mod EventLaws
 pub mod Lines
 pub mod ScheduleLaws
 pub mod AskLaws
+pub mod Drawing
+pub mod Made

@@ -9,7 +9,7 @@ use Rattle.text_lines.specs.Reading.{◌>>=◌, number_of}
 use Rattle.text_lines.specs.Words.{Reader, one, both, shown, tested, given, by_key, all_of}
 use Rattle.mrp_types.specs.declared.id.LogId.{LogId}
 use Rattle.command_codec.specs.declared.command.Command.{Command}
-use Rattle.command_codec.specs.declared.command.Command.TheVariants.{Append, Multi, ReadLog, TrimLog, Get, Scan, Update, Insert, Delete}
+use Rattle.command_codec.specs.declared.command.Command.TheVariants.{Append, Multi, ReadLog, TrimLog, Get, Scan, Update, Insert, Delete, Swap}
 use Rattle.disk_model.specs.declared.area.Image.{Image}
 use Rattle.disk_model.specs.declared.area.Image.TheVariants.{Old, New, Fill}
 use Rattle.mrp_config.specs.Config.{Config}
@@ -87,9 +87,13 @@ insert_at = shown (λ x. Insert x.0 x.1) (both (bytes_word 1 256) (bytes_word 0 
 unfoldable pub delete_at : WordReader Command
 delete_at = shown Delete (bytes_word 1 256)
 
+unfoldable pub swap_at : WordReader Command
+swap_at = shown (λ x. Swap x.0 x.1.0 x.1.1) (both (bytes_word 1 256) (both (bytes_word 0 2048) (bytes_word 0 2048)))
+
 unfoldable pub commands_on_keys : List (List ℕ × WordReader Command)
 commands_on_keys =
-    (codes "get", get_at) ∷ (codes "scan", scan_at) ∷ (codes "update", update_at) ∷ (codes "insert", insert_at) ∷ (codes "delete", delete_at) ∷ []
+    (codes "get", get_at) ∷ (codes "scan", scan_at) ∷ (codes "update", update_at) ∷ (codes "insert", insert_at) ∷ (codes "delete", delete_at) ∷ (codes "swap", swap_at)
+    ∷ []
 
 abbrev pub commands : List (List ℕ × WordReader Command)
 commands = (codes "append", append_at) ∷ (codes "multi", multi_at) ∷ (codes "read", read_at) ∷ (codes "trimlog", trimlog_at) ∷ commands_on_keys

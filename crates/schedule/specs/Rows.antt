@@ -5,7 +5,7 @@ use Rattle.mrp_types.specs.declared.id.RingId.{RingId}
 use Rattle.mrp_types.specs.declared.id.ClientId.{ClientId}
 use Rattle.mrp_types.specs.declared.id.LogId.{LogId}
 use Rattle.command_codec.specs.declared.command.Command.{Command}
-use Rattle.command_codec.specs.declared.command.Command.TheVariants.{Append, Multi, ReadLog, TrimLog, Get, Scan, Update, Insert, Delete}
+use Rattle.command_codec.specs.declared.command.Command.TheVariants.{Append, Multi, ReadLog, TrimLog, Get, Scan, Update, Insert, Delete, Swap}
 use Rattle.disk_model.specs.declared.area.Image.TheVariants.{Old, New, Fill}
 use Rattle.mrp_config.specs.Config.{Config}
 use Rattle.schedule.specs.declared.event.ScheduleEvent.{ScheduleEvent}
@@ -45,7 +45,7 @@ four = record {
   journal = 1048576;
   nodes = record { id = node 0; address = [] } ∷ record { id = node 1; address = [] } ∷ record { id = node 2; address = [] } ∷ record { id = node 3; address = [] } ∷ [];
   clients = record { id = client 0; address = [] } ∷ record { id = client 7; address = [] } ∷ [];
-  rings = record { id = ring 0; acceptors = node 0 ∷ node 1 ∷ node 2 ∷ [] } ∷ record { id = ring 1; acceptors = node 3 ∷ [] } ∷ [];
+  rings = record { id = ring 0; acceptors = node 0 ∷ node 1 ∷ node 2 ∷ []; m = 1 } ∷ record { id = ring 1; acceptors = node 3 ∷ []; m = 1 } ∷ [];
   partitions =
       record { id = record { 0 = 0 }; replicas = node 0 ∷ node 1 ∷ node 2 ∷ []; rings = ring 0 ∷ []; home = ring 0; from = []; to = 109 ∷ []; logs = log 0 ∷ log 5 ∷ []; trim_quorum = 2; recovery_quorum = 2 }
       ∷ record { id = record { 0 = 1 }; replicas = node 3 ∷ []; rings = ring 1 ∷ []; home = ring 1; from = 109 ∷ []; to = []; logs = log 1 ∷ log 63 ∷ []; trim_quorum = 1; recovery_quorum = 1 }
@@ -81,6 +81,7 @@ rows =
     ∷ written (Ask (client 0) (Update (107 ∷ []) (1 ∷ []))) (codes "ask 0 update 6b 01")
     ∷ written (Ask (client 0) (Insert (107 ∷ 108 ∷ []) [])) (codes "ask 0 insert 6b6c -")
     ∷ written (Ask (client 0) (Delete (0 ∷ []))) (codes "ask 0 delete 00")
+    ∷ written (Ask (client 0) (Swap (97 ∷ []) (50 ∷ []) [])) (codes "ask 0 swap 61 32 -")
     ∷ written (Flow 100000) (codes "flow 100000")
     ∷ written (Lose 1) (codes "lose 1")
     ∷ written (Deliver 18446744073709551615) (codes "deliver 18446744073709551615")
@@ -162,6 +163,7 @@ no_words =
     ∷ ended (codes "ask 0 update 6b") kind.Word
     ∷ ended (codes "ask 0 insert 6b") kind.Word
     ∷ ended (codes "ask 0 delete") kind.Word
+    ∷ ended (codes "ask 0 swap 61 32") kind.Word
     ∷ unended (codes "flow") kind.Word
     ∷ unended (codes "tick") kind.Word
     ∷ []

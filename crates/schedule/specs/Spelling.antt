@@ -7,7 +7,7 @@ use Rattle.text_lines.specs.Text.{joined, joined_by, line_text, hex_text}
 use Rattle.mrp_types.specs.declared.id.LogId.{LogId}
 use Rattle.command_codec.specs.Valid.{rises_from}
 use Rattle.command_codec.specs.declared.command.Command.{Command}
-use Rattle.command_codec.specs.declared.command.Command.TheVariants.{Append, Multi, ReadLog, TrimLog, Get, Scan, Update, Insert, Delete}
+use Rattle.command_codec.specs.declared.command.Command.TheVariants.{Append, Multi, ReadLog, TrimLog, Get, Scan, Update, Insert, Delete, Swap}
 use Rattle.disk_model.specs.declared.area.Image.{Image}
 use Rattle.disk_model.specs.declared.area.Image.TheVariants.{Old, New, Fill}
 use Rattle.mrp_config.specs.Config.{Config}
@@ -33,6 +33,7 @@ command_words (Scan from to) = codes "scan" ∷ hex_text from ∷ hex_text to �
 command_words (Update key value) = codes "update" ∷ hex_text key ∷ hex_text value ∷ []
 command_words (Insert key value) = codes "insert" ∷ hex_text key ∷ hex_text value ∷ []
 command_words (Delete key) = codes "delete" ∷ hex_text key ∷ []
+command_words (Swap key old new) = codes "swap" ∷ hex_text key ∷ hex_text old ∷ hex_text new ∷ []
 
 -- the words of an image
 abbrev pub image_words : Image → List (List ℕ)
@@ -110,6 +111,7 @@ IsAsked (Scan from to) = (AreBytes 0 256 from × AreBytes 0 256 to) × IsTrue (i
 IsAsked (Update key value) = AreBytes 1 256 key × AreBytes 0 2048 value
 IsAsked (Insert key value) = AreBytes 1 256 key × AreBytes 0 2048 value
 IsAsked (Delete key) = AreBytes 1 256 key
+IsAsked (Swap key old new) = AreBytes 1 256 key × (AreBytes 0 2048 old × AreBytes 0 2048 new)
 
 -- up to 1,000,000 bytes are kept, and others are this byte
 abbrev pub IsImage : Image → Type 0

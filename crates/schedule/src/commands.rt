@@ -5,18 +5,14 @@ ghost use Rattle.text_lines.specs.Reading.{Reads};
 ghost use Rattle.text_lines.specs.Words.{by_key};
 ghost use Rattle.text_lines.specs.declared.fault.TextFault.TheVariants.{Word as NoWord};
 ghost use Rattle.mrp_config.specs.Routing.{is_below};
-ghost use Rattle.schedule.specs.Reading.{append_at, multi_at, read_at, trimlog_at, get_at, scan_at, update_at, insert_at, delete_at, commands_on_keys, command_at};
+ghost use Rattle.schedule.specs.Reading.{append_at, multi_at, read_at, trimlog_at, get_at, scan_at, update_at, insert_at, delete_at, swap_at, commands_on_keys, command_at};
 
 use crate::words::{read_bytes, read_log, read_logs, read_number};
 use command_codec::Command;
+use command_codec::limits::{KEY, STORED};
 use std::alloc::Global;
 use std::cmp::Ordering;
 use text_lines::{TextFault, Words};
-
-// The greatest lengths of a key and of a stored value, in bytes.
-const KEY: usize = 256;
-
-const STORED: usize = 2_048;
 
 /// The command whose words come next.
 #[tactic(auto, unfolding(crate::specs::Reading::command_at))]
@@ -58,6 +54,9 @@ fn read_on_keys(alloc: Global, word: &[u8], words: &mut Words<'_>) -> Result<Com
     }
     if word == b"delete".as_slice() {
         return read_delete(alloc, words);
+    }
+    if word == b"swap".as_slice() {
+        return read_swap(alloc, words);
     }
     Err(TextFault::Word)
 }
@@ -149,4 +148,14 @@ fn read_delete(alloc: Global, words: &mut Words<'_>) -> Result<Command, TextFaul
 {
     let key = read_bytes(alloc, words, 1, KEY)?;
     Ok(Command::Delete { key })
+}
+
+#[tactic(auto, unfolding(crate::specs::Reading::swap_at))]
+fn read_swap(alloc: Global, words: &mut Words<'_>) -> Result<Command, TextFault>
+    ensures { Reads (λ c. c) (swap_at words.old) result words.new }
+{
+    let key = read_bytes(alloc, words, 1, KEY)?;
+    let old = read_bytes(alloc, words, 0, STORED)?;
+    let new = read_bytes(alloc, words, 0, STORED)?;
+    Ok(Command::Swap { key, old, new })
 }

@@ -65,11 +65,11 @@ fn events_both_ways(rt: HostRuntime) -> Result<(), Fail> {
     let alloc = rt.alloc();
     let text = "ask 7 append 63 6869\nask 0 append 0 -\nask 0 multi 0,63 00ff\nask 0 multi 63 -\n\
         ask 0 read 63 18446744073709551615\nask 0 trimlog 0 5\nask 0 get 6b\nask 0 scan 61 62\nask 0 scan - -\n\
-        ask 0 update 6b 01\nask 0 insert 6b6c -\nask 0 delete 00\nflow 100000\nlose 1\n\
+        ask 0 update 6b 01\nask 0 insert 6b6c -\nask 0 delete 00\nask 0 swap 62 - 33\nflow 100000\nlose 1\n\
         deliver 18446744073709551615\nlist 0\ntick all\ntick node 2\ntick client 7\nlead 2 0\ncrash 0\n\
         restart 0 old\nrestart 0 new\nrestart 0 fill 1000000 7f\nfuse 0 0\nfail 1 1000\nfailread 2 3\nshow 1\n";
     let schedule = read(alloc, &deployment(alloc)?, text.as_bytes())?;
-    assert_eq!(rt; schedule.items().len(), 28);
+    assert_eq!(rt; schedule.items().len(), 29);
     match schedule.items() {
         [
             ScheduleEvent::Ask {
@@ -181,30 +181,68 @@ fn long_values(rt: HostRuntime) -> Result<(), Fail> {
     Ok(())
 }
 
+// The deployment with a piece of its text in place of another.
+fn edited(alloc: Global, old: &str, new: &str) -> Result<Deployment, Fail> {
+    let Some((before, after)) = DEPLOYMENT.split_once(old) else {
+        return Err(Fail::new("nothing to write over"));
+    };
+    let text = format!(in alloc; "{before}{new}{after}")?;
+    Ok(Deployment::from_bytes(alloc, text.as_bytes())?)
+}
+
+// The words are those of PCG's reference, drawn and put into events by hand.
 #[test]
-fn one_event_past_the_most(rt: HostRuntime) -> Result<(), Fail> {
+fn schedules_of_numbers(rt: HostRuntime) -> Result<(), Fail> {
     let alloc = rt.alloc();
-    let mut text = Vec::new(alloc);
-    put_times(&mut text, b"list 0\n", 1_048_576)?;
-    // the line past the most is judged by nothing else
-    text.push(b'x')?;
-    let outcome = counted(alloc, &deployment(alloc)?, &text);
-    assert_eq!(rt; outcome, fault(1_048_577, FaultKind::TooMany));
+    let deployment = deployment(alloc)?;
+    for (seed, events, want) in [
+        (1, 0, ""),
+        (1, 3, "flow 1000\ntick all\nflow 1000\n"),
+        (
+            1,
+            22,
+            "flow 1000\ntick all\nflow 1000\ntick all\nflow 1\nask 0 insert 2ee8 291f2ee8\ntick all\nflow 25\nflow 21\ntick all\nflow 37\ncrash 1\nflow 22\nflow 64\ntick all\nrestart 1 fill 21 7f\nflow 2\nrestart 2 old\nask 7 append 0 30d4041b\nflow 16\nflow 14\nask 0 insert 6c3a d7856c3a\n",
+        ),
+    ] {
+        let schedule = generate(alloc, &deployment, seed, events)?;
+        assert_eq!(rt; write(alloc, &schedule)?.bytes(), want.as_bytes());
+    }
+    let text = write(alloc, &generate(alloc, &deployment, 7, 200)?)?;
+    let schedule = read(alloc, &deployment, text.bytes())?;
+    assert_eq!(rt; schedule.items().len(), 200);
+    assert_eq!(rt; write(alloc, &schedule)?.bytes(), text.bytes());
     Ok(())
 }
 
-// 16,320 lines of 4,112 bytes and one of 1,024 are 67,108,864 bytes.
+// How many of the events are appends, and how many are asked besides.
+fn asks(schedule: &Schedule) -> (usize, usize) {
+    let mut appends = 0;
+    let mut others = 0;
+    for event in schedule.items() {
+        match event {
+            ScheduleEvent::Ask {
+                client: _,
+                command: Command::Append { .. },
+            } => appends = appends.max(1),
+            ScheduleEvent::Ask { .. } => others = others.max(1),
+            _ => {}
+        }
+    }
+    (appends, others)
+}
+
 #[test]
-fn one_byte_past_the_most(rt: HostRuntime) -> Result<(), Fail> {
+fn schedules_without_clients_or_logs(rt: HostRuntime) -> Result<(), Fail> {
     let alloc = rt.alloc();
-    let mut line = Vec::new(alloc);
-    put_append(&mut line, 2_048)?;
-    let mut text = Vec::with_capacity(alloc, 67_108_865)?;
-    put_times(&mut text, &line, 16_320)?;
-    put_append(&mut text, 504)?;
-    assert_eq!(rt; text.len(), 67_108_864);
-    text.push(b'x')?;
-    let outcome = counted(alloc, &deployment(alloc)?, &text);
-    assert_eq!(rt; outcome, fault(16_322, FaultKind::TooMany));
+    let clients =
+        "[[client]]\nid = 0\naddress = '127.0.0.1:7200'\n[[client]]\nid = 7\naddress = '127.0.0.1:7207'\n";
+    for (old, new, want) in [
+        ("lambda = 0", "lambda = 0", (1, 1)),
+        (clients, "", (0, 0)),
+        ("logs = [0, 63]", "logs = []", (0, 1)),
+    ] {
+        let schedule = generate(alloc, &edited(alloc, old, new)?, 7, 200)?;
+        assert_eq!(rt; asks(&schedule), want);
+    }
     Ok(())
 }

@@ -12,7 +12,7 @@ use command_codec::Command;
 use disk_model::Image;
 use mrp_types::{LogId, Memory, Octets};
 use std::alloc::Global;
-use text_lines::{put_bytes, put_hex, put_number, put_word};
+use text_lines::{put_bytes, put_decimal, put_hex, put_number, put_word};
 
 /// The one spelling of a schedule: a line for each event.
 pub fn write(alloc: Global, schedule: &Schedule) -> Result<Octets, Memory>
@@ -40,13 +40,13 @@ fn put_words(alloc: Global, out: &mut Octets, event: &ScheduleEvent) -> Result<(
 {
     match event {
         ScheduleEvent::Ask { client, command } => {
-            put_head(alloc, out, b"ask", u64::from(client.0))?;
+            put_head(out, b"ask", u64::from(client.0))?;
             put_command(alloc, out, command)
         }
-        ScheduleEvent::Flow { count } => put_head(alloc, out, b"flow", u64::from(*count)),
-        ScheduleEvent::Lose { count } => put_head(alloc, out, b"lose", u64::from(*count)),
-        ScheduleEvent::Deliver { frame } => put_head(alloc, out, b"deliver", *frame),
-        ScheduleEvent::List { frame } => put_head(alloc, out, b"list", *frame),
+        ScheduleEvent::Flow { count } => put_head(out, b"flow", u64::from(*count)),
+        ScheduleEvent::Lose { count } => put_head(out, b"lose", u64::from(*count)),
+        ScheduleEvent::Deliver { frame } => put_head(out, b"deliver", *frame),
+        ScheduleEvent::List { frame } => put_head(out, b"list", *frame),
         ScheduleEvent::TickAll => {
             out.extend(b"tick")?;
             put_word(out, b"all")
@@ -54,44 +54,44 @@ fn put_words(alloc: Global, out: &mut Octets, event: &ScheduleEvent) -> Result<(
         ScheduleEvent::TickNode { node } => {
             out.extend(b"tick")?;
             put_word(out, b"node")?;
-            put_number(alloc, out, u64::from(node.0))
+            put_number(out, u64::from(node.0))
         }
         ScheduleEvent::TickClient { client } => {
             out.extend(b"tick")?;
             put_word(out, b"client")?;
-            put_number(alloc, out, u64::from(client.0))
+            put_number(out, u64::from(client.0))
         }
         ScheduleEvent::Lead { node, ring } => {
-            put_head(alloc, out, b"lead", u64::from(node.0))?;
-            put_number(alloc, out, u64::from(ring.0))
+            put_head(out, b"lead", u64::from(node.0))?;
+            put_number(out, u64::from(ring.0))
         }
-        ScheduleEvent::Crash { node } => put_head(alloc, out, b"crash", u64::from(node.0)),
+        ScheduleEvent::Crash { node } => put_head(out, b"crash", u64::from(node.0)),
         ScheduleEvent::Restart { node, image } => {
-            put_head(alloc, out, b"restart", u64::from(node.0))?;
+            put_head(out, b"restart", u64::from(node.0))?;
             put_image(alloc, out, *image)
         }
         ScheduleEvent::Fuse { node, calls } => {
-            put_head(alloc, out, b"fuse", u64::from(node.0))?;
-            put_number(alloc, out, u64::from(*calls))
+            put_head(out, b"fuse", u64::from(node.0))?;
+            put_number(out, u64::from(*calls))
         }
         ScheduleEvent::Fail { node, calls } => {
-            put_head(alloc, out, b"fail", u64::from(node.0))?;
-            put_number(alloc, out, u64::from(*calls))
+            put_head(out, b"fail", u64::from(node.0))?;
+            put_number(out, u64::from(*calls))
         }
         ScheduleEvent::FailRead { node, calls } => {
-            put_head(alloc, out, b"failread", u64::from(node.0))?;
-            put_number(alloc, out, u64::from(*calls))
+            put_head(out, b"failread", u64::from(node.0))?;
+            put_number(out, u64::from(*calls))
         }
-        ScheduleEvent::Show { node } => put_head(alloc, out, b"show", u64::from(node.0)),
+        ScheduleEvent::Show { node } => put_head(out, b"show", u64::from(node.0)),
     }
 }
 
 // Adds the first word of a line, and a number behind it.
-fn put_head(alloc: Global, out: &mut Octets, word: &[u8], number: u64) -> Result<(), Memory>
+fn put_head(out: &mut Octets, word: &[u8], number: u64) -> Result<(), Memory>
     ensures { OnOk result (out.new ≡ out.old ++ (word.now ++ spaced (decimal number))) }
 {
     out.extend(word)?;
-    put_number(alloc, out, number)
+    put_number(out, number)
 }
 
 // Adds the words of an image, each after a space.
@@ -103,7 +103,7 @@ fn put_image(alloc: Global, out: &mut Octets, image: Image) -> Result<(), Memory
         Image::New => put_word(out, b"new"),
         Image::Fill { keep, byte } => {
             put_word(out, b"fill")?;
-            put_number(alloc, out, u64::from(keep))?;
+            put_number(out, u64::from(keep))?;
             put_hex(alloc, out, &[byte])
         }
     }
@@ -116,23 +116,23 @@ fn put_command(alloc: Global, out: &mut Octets, command: &Command) -> Result<(),
     match command {
         Command::Append { log, value } => {
             put_word(out, b"append")?;
-            put_number(alloc, out, u64::from(log.0))?;
+            put_number(out, u64::from(log.0))?;
             put_bytes(alloc, out, value.bytes())
         }
         Command::Multi { logs, value } => {
             put_word(out, b"multi")?;
-            put_logs(alloc, out, logs.items())?;
+            put_logs(out, logs.items())?;
             put_bytes(alloc, out, value.bytes())
         }
         Command::ReadLog { log, position } => {
             put_word(out, b"read")?;
-            put_number(alloc, out, u64::from(log.0))?;
-            put_number(alloc, out, *position)
+            put_number(out, u64::from(log.0))?;
+            put_number(out, *position)
         }
         Command::TrimLog { log, position } => {
             put_word(out, b"trimlog")?;
-            put_number(alloc, out, u64::from(log.0))?;
-            put_number(alloc, out, *position)
+            put_number(out, u64::from(log.0))?;
+            put_number(out, *position)
         }
         Command::Get { key } => {
             put_word(out, b"get")?;
@@ -157,27 +157,33 @@ fn put_command(alloc: Global, out: &mut Octets, command: &Command) -> Result<(),
             put_word(out, b"delete")?;
             put_bytes(alloc, out, key.bytes())
         }
+        Command::Swap { key, old, new } => {
+            put_word(out, b"swap")?;
+            put_bytes(alloc, out, key.bytes())?;
+            put_bytes(alloc, out, old.bytes())?;
+            put_bytes(alloc, out, new.bytes())
+        }
     }
 }
 
 // Adds a space, and the logs with commas between.
-fn put_logs(alloc: Global, out: &mut Octets, logs: &[LogId]) -> Result<(), Memory>
+fn put_logs(out: &mut Octets, logs: &[LogId]) -> Result<(), Memory>
     ensures { OnOk result (out.new ≡ out.old ++ spaced (logs_text logs.now)) }
 {
     let Some((first, others)) = logs.split_first() else {
         return out.push(b' ');
     };
-    put_number(alloc, out, u64::from(first.0))?;
-    put_others(alloc, out, others)
+    put_number(out, u64::from(first.0))?;
+    put_others(out, others)
 }
 
 // Adds each of the logs after a comma.
-fn put_others(alloc: Global, out: &mut Octets, logs: &[LogId]) -> Result<(), Memory>
+fn put_others(out: &mut Octets, logs: &[LogId]) -> Result<(), Memory>
     ensures { OnOk result (out.new ≡ out.old ++ flat_map (set_off 44) (map (λ (log : SomeLog). decimal log.0) logs.now)) }
 {
     for log in logs {
         out.push(b',')?;
-        out.extend(log.0.to_string(alloc)?.as_bytes())?;
+        put_decimal(out, u64::from(log.0))?;
     }
     Ok(())
 }

@@ -10,6 +10,7 @@ use Rattle.command_codec.specs.Replies.{reply_bytes}
 use Rattle.mrp_config.specs.declared.tables.PartitionTable.{PartitionTable}
 use Rattle.mrp_config.specs.Config.{Config}
 use Rattle.mrp_config.specs.Valid.{IsValid, IsPartition, IncreasesFrom, numbers_of_rings}
+use Rattle.mrp_config.proofs.Rounds.{round_in_range}
 use Rattle.plain_model.specs.Replicas.{Replica, Applied, AppliedAll, applies, applies_from, with_applied, noted}
 use Rattle.plain_model.specs.StateBytes.{state_bytes}
 use Rattle.plain_model.specs.Tuples.{round_sizes, next_place, past, is_tuple_of}
@@ -56,4 +57,4 @@ pub partition-limits : (nodes rings : List ℕ) (p : PartitionTable) → IsParti
 partition-limits nodes rings p is = (record { few = is.few_logs; low = is.low_logs }, is.increase)
 
 pub rounds-some : (c : Config) (ring : ℕ) → IsValid c → 0 < round_sizes c ring
-rounds-some c ring is = let m = is.m.0 in omega arith
+rounds-some c ring is = (round_in_range c is (record { 0 = ring })).0

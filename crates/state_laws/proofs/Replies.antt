@@ -1,25 +1,25 @@
 -- The replies of the services are replies, and short.
 use Rattle.std.proofs.Common.{lit≤, arith, ◌≤◌, ◌<◌, ℕ, zero, suc, ◌-◌, ◌*◌, ◌^◌, nat_lt, nat_le, Bool, true, false, if◌then◌else◌, List, [], ◌∷◌, length, Option, Some, None, refl, ap, IsTrue, length-append}
-use Rattle.std.specs.Prelude.{slice_get}
+use Rattle.std.specs.Prelude.{slice_get, bytes_eq}
 use Rattle.std.specs.List.{AllByRecursion, flat_map, cons_option}
 use Rattle.std.proofs.lemmas.List.Concat.{flat_map-cons}
 use Rattle.mrp_types.specs.declared.id.LogId.{LogId}
 use Rattle.command_codec.specs.declared.command.Command.{Command}
-use Rattle.command_codec.specs.declared.command.Command.TheVariants.{Append, Multi, ReadLog, TrimLog, Get, Scan, Update, Insert, Delete}
+use Rattle.command_codec.specs.declared.command.Command.TheVariants.{Append, Multi, ReadLog, TrimLog, Get, Scan, Update, Insert, Delete, Swap}
 use Rattle.command_codec.specs.declared.reply.LogPosition.{LogPosition}
 use Rattle.command_codec.specs.declared.reply.TableEntry.{TableEntry}
 use Rattle.command_codec.specs.declared.reply.Reply.{Reply}
 use Rattle.command_codec.specs.declared.reply.Reply.TheVariants as replies
 use Rattle.command_codec.specs.Grammar.{comes_after, reply_at}
 use Rattle.command_codec.specs.Replies.{reply_bytes, position_bytes, IsPosition, IsTableEntry, keys_rise}
-use Rattle.command_codec.specs.Valid.{IsCommand}
+use Rattle.command_codec.specs.Valid.{IsCommand, IsStored}
 use Rattle.command_codec.proofs.Combined.{whole_again}
 use Rattle.command_codec.proofs.ReplyLaws.{IsWhole, reply_law}
 use Rattle.command_codec.proofs.Sizes.{length-u64_bytes, length-string16}
 use Rattle.mrp_config.specs.Config.{has_log}
 use Rattle.mrp_config.specs.Routing.{is_within}
 use Rattle.plain_model.specs.Pages.{front_within}
-use Rattle.plain_model.specs.Replicas.{LogState, Effect, log_length, log_at, ends_of, read_at, value_of, value_or_absent, entry_size, page_of, scanned, effect_of, told, trimmed_to, with_log, updating, inserting, deleting}
+use Rattle.plain_model.specs.Replicas.{LogState, Effect, log_length, log_at, ends_of, read_at, value_of, value_or_absent, entry_size, page_of, scanned, effect_of, told, trimmed_to, with_log, updating, inserting, deleting, swapping, with_entry}
 use Rattle.plain_model.specs.StateBytes.{was_reply}
 use Rattle.plain_model.proofs.Pages.{front-longest}
 use Rattle.plain_model.proofs.SizeLaws.{page-short}
@@ -40,6 +40,7 @@ some_bytes replies.Exists = omega arith
 some_bytes replies.Done = omega arith
 some_bytes (replies.Entries more entries) = omega arith
 some_bytes replies.Limit = omega arith
+some_bytes (replies.Differs value) = omega arith
 
 pub spoken_text : (reply : Reply) → IsSpoken reply → IsReplyText (reply_bytes reply)
 spoken_text reply is = record {
@@ -114,6 +115,9 @@ positions_spoken named ids logs few below are =
 value_spoken : (o : Option (List ℕ)) → IsStoredOrNone o → IsSpoken (value_or_absent o)
 value_spoken None is = record { valid = tt; numbers = tt; short = lit≤ tt }
 value_spoken (Some value) is = record { valid = is; numbers = tt; short = omega (arith, length-string16 value, is) }
+
+differs_spoken : (value : List ℕ) → IsStored value → IsSpoken (replies.Differs value)
+differs_spoken value is = record { valid = is; numbers = tt; short = omega (arith, length-string16 value, is) }
 
 got_stored : (values : List (List ℕ)) (i : ℕ) → AllByRecursion IsShort values → IsStoredOrNone (slice_get values i)
 got_stored [] i each = tt
@@ -235,3 +239,12 @@ effect_is (Delete key) ids logs table is few below are rising = by (value_of key
     by : (o : Option (List ℕ)) → IsEffect ids (deleting o key logs table)
     by None = record { logs = shaped ids logs are; table = rising; reply = plain_spoken.0 }
     by (Some old) = record { logs = shaped ids logs are; table = without_rises key [] table rising; reply = plain_spoken.2 }
+effect_is (Swap key old new) ids logs table is few below are rising = by (value_of key table) (value_stored key [] table rising)
+  where
+    by : (o : Option (List ℕ)) → IsStoredOrNone o → IsEffect ids (swapping o key old new logs table)
+    by None stored = record { logs = shaped ids logs are; table = rising; reply = plain_spoken.0 }
+    by (Some value) stored = judged (bytes_eq value old)
+      where
+        judged : (t : Bool) → IsEffect ids (if t then told replies.Done logs (with_entry key new table) else told (replies.Differs value) logs table)
+        judged true = record { logs = shaped ids logs are; table = with_entry_rises key new table is.0 is.2 rising; reply = plain_spoken.2 }
+        judged false = record { logs = shaped ids logs are; table = rising; reply = differs_spoken value stored }

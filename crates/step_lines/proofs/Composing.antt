@@ -11,7 +11,7 @@ use Rattle.mrp_types.specs.declared.voted.Decided.{Decided}
 use Rattle.mrp_config.specs.Config.{Config}
 use Rattle.mrp_config.specs.declared.tables.PartitionTable.{PartitionTable}
 use Rattle.frames.specs.declared.sent.Sent.{Sent}
-use Rattle.checkpoint.specs.Checks.{Checkpoint}
+use Rattle.checkpoint.specs.Checkpoints.{Checkpoint}
 use Rattle.plain_model.proofs.TupleAt.{by_number}
 use Rattle.vote_state.specs.State.{State, taken, changed}
 use Rattle.vote_state.specs.declared.change.Change.{Change}
@@ -19,16 +19,16 @@ use Rattle.vote_journal.specs.Journal.{Journal, recorded}
 use Rattle.range_map.specs.Entries.{value_at, IsIncreasingFrom}
 use Rattle.range_map.proofs.EntryLemmas.{value_at-entries_from, increasing_entries_from}
 use Rattle.protocol.specs.Lines.{Line, Learn, Trim, BallotLimit, InstanceLimit}
-use Rattle.protocol.specs.Parts.{Ring, Part, Did, Learner}
+use Rattle.protocol.specs.Parts.{Ring, Part, Effects, Learner}
 use Rattle.protocol.specs.Rings.{subscribers_of}
 use Rattle.protocol.specs.Learner.{value_in, with_base}
 use Rattle.protocol.specs.Recovery.{epoch_of}
 use Rattle.protocol.specs.Bases.{rebased, rebases}
-use Rattle.protocol.specs.Node.{Acting, RingPart, Service, with_part_in, with_part, prints, finished}
-use Rattle.protocol.specs.Learning.{with_did}
+use Rattle.protocol.specs.Node.{StepSoFar, RingPart, Service, with_part_in, with_part, prints, finished}
+use Rattle.protocol.specs.Learning.{with_effects}
 use Rattle.protocol.specs.Merging.{merges}
 use Rattle.faithful.specs.Scanners.{past, touches, or_else, told, learned_by, book}
-use Rattle.step_lines.specs.Dids.{IsPlain, DidTold, AllTold, Onward}
+use Rattle.step_lines.specs.Effects.{IsPlain, EffectsTold, AllTold, Onward}
 use Rattle.step_lines.proofs.Onward.{put_rings}
 use Rattle.recovery_lines.specs.Ties.{IsFit, IsRightLine, AreRight, IsSaid, PartLines, CurrentLines, KnownLines, KeptLines, ReplicaLines, ActLines, AfterLines, StepLines, IsOf, AreCovered, IsCovered, PartTold}
 use Rattle.faithful.proofs.Growing.{past_more, book_more}
@@ -121,46 +121,46 @@ told_put c lines ring part round trim (p ∷ parts) all = go (p.ring.id.0 == rin
 
 -- ---- a rule of a ring was made
 
-pub did_onward : (c : Config) (lines : List Line) (ring : Ring) (did : Did) (a : Acting) → (AllTold c lines a → DidTold c lines ring.id did) → Onward c lines a (with_did ring did a)
-did_onward c lines ring did a told = record {
-  more = did.lines;
+pub effects_onward : (c : Config) (lines : List Line) (ring : Ring) (effects : Effects) (a : StepSoFar) → (AllTold c lines a → EffectsTold c lines ring.id effects) → Onward c lines a (with_effects ring effects a)
+effects_onward c lines ring effects a told = record {
+  more = effects.lines;
   printed = refl;
   id = refl;
-  rings = put_rings ring.id did.part a.view.parts;
+  rings = put_rings ring.id effects.part a.view.parts;
   journal = refl;
-  checks = refl;
-  told = λ t. let d : DidTold c lines ring.id did = told t in record {
-    parts = told_put c lines ring.id did.part d.round d.trim a.view.parts t.parts;
-    trims = subst (λ (s : State). AreCovered c lines s) (sym (taken_more a.changes did.changes a.view.journal.state)) (d.changes (taken a.changes a.view.journal.state) t.trims);
-    epoch = ap (λ (s : State). s.epoch) (taken_more a.changes did.changes a.view.journal.state) ∙ d.epoch (taken a.changes a.view.journal.state) ∙ t.epoch;
+  checkpoints = refl;
+  told = λ t. let d : EffectsTold c lines ring.id effects = told t in record {
+    parts = told_put c lines ring.id effects.part d.round d.trim a.view.parts t.parts;
+    trims = subst (λ (s : State). AreCovered c lines s) (sym (taken_more a.changes effects.changes a.view.journal.state)) (d.changes (taken a.changes a.view.journal.state) t.trims);
+    epoch = ap (λ (s : State). s.epoch) (taken_more a.changes effects.changes a.view.journal.state) ∙ d.epoch (taken a.changes a.view.journal.state) ∙ t.epoch;
   };
 }
 
-module _ (c : Config) (before lines : List Line) (a : Acting) (ties : ActLines c before lines a) (ring : Ring) where
-  pub did_composed : (did : Did) → DidTold c before ring.id did → IsIncreasingFrom 0 did.part.learner.held → ((inst : ℕ) (value : Value) → value_in did.part.learner inst ≡ Some value → book lines ring.id inst ≡ Some value)
-      → ActLines c before (past lines did.lines) (with_did ring did a)
-  did_composed did d ordered booked = record {
+module _ (c : Config) (before lines : List Line) (a : StepSoFar) (ties : ActLines c before lines a) (ring : Ring) where
+  pub effects_composed : (effects : Effects) → EffectsTold c before ring.id effects → IsIncreasingFrom 0 effects.part.learner.held → ((inst : ℕ) (value : Value) → value_in effects.part.learner inst ≡ Some value → book lines ring.id inst ≡ Some value)
+      → ActLines c before (past lines effects.lines) (with_effects ring effects a)
+  effects_composed effects d ordered booked = record {
     done = record {
-      printed = past_more before a.lines did.lines ∙ ap (λ (ls : List Line). past ls did.lines) ties.done.printed;
-      own = appended (IsOf a.view.id) a.lines did.lines ties.done.own (mapped (IsPlain c lines) (IsOf a.view.id) (λ l p other ne. plain_quiet c lines l p other) did.lines plain);
-      right = plain_many c (AreRight c) (λ l ls p f. (plain_rule c ls l p, f)) did.lines lines plain ties.done.right;
-      known = plain_many c (KnownLines c) (λ l ls p k. KnownLines-more c l ls (λ r q t e replica fits h. absurd (true≢false (sym e ∙ plain_quiet c ls l p r.0))) k) did.lines lines plain ties.done.known;
-      frames = appended (IsSaid c (past lines did.lines)) a.frames did.frames (frames_still c did.lines lines a.frames ties.done.frames) (frames_still c did.lines lines did.frames frames);
-      replies = frames_still c did.lines lines a.replies ties.done.replies;
-      parts = all_many (λ (ls : List Line). AllByRecursion (PartLines ls) (with_part_in ring.id did.part a.view.parts))
-          (λ l ls p. mapped (PartLines ls) (PartLines (l ∷ ls)) (PartLines-more c l ls) (with_part_in ring.id did.part a.view.parts) p) did.lines lines
-          (part_put lines ring did.part ordered booked a.view.parts ties.done.parts);
+      printed = past_more before a.lines effects.lines ∙ ap (λ (ls : List Line). past ls effects.lines) ties.done.printed;
+      own = appended (IsOf a.view.id) a.lines effects.lines ties.done.own (mapped (IsPlain c lines) (IsOf a.view.id) (λ l p other ne. plain_quiet c lines l p other) effects.lines plain);
+      right = plain_many c (AreRight c) (λ l ls p f. (plain_rule c ls l p, f)) effects.lines lines plain ties.done.right;
+      known = plain_many c (KnownLines c) (λ l ls p k. KnownLines-more c l ls (λ r q t e replica fits h. absurd (true≢false (sym e ∙ plain_quiet c ls l p r.0))) k) effects.lines lines plain ties.done.known;
+      frames = appended (IsSaid c (past lines effects.lines)) a.frames effects.frames (frames_still c effects.lines lines a.frames ties.done.frames) (frames_still c effects.lines lines effects.frames frames);
+      replies = frames_still c effects.lines lines a.replies ties.done.replies;
+      parts = all_many (λ (ls : List Line). AllByRecursion (PartLines ls) (with_part_in ring.id effects.part a.view.parts))
+          (λ l ls p. mapped (PartLines ls) (PartLines (l ∷ ls)) (PartLines-more c l ls) (with_part_in ring.id effects.part a.view.parts) p) effects.lines lines
+          (part_put lines ring effects.part ordered booked a.view.parts ties.done.parts);
     };
-    replica = plain_many c (λ (ls : List Line). ReplicaLines c ls a.view.id (epoch_of a.view) a.view.checks.newest a.view.service)
-        (λ l ls p r. ReplicaLines-quiet c l ls a.view.id (epoch_of a.view) a.view.checks.newest a.view.service (plain_quiet c ls l p a.view.id.0) r) did.lines lines plain ties.replica;
+    replica = plain_many c (λ (ls : List Line). ReplicaLines c ls a.view.id (epoch_of a.view) a.view.checkpoints.newest a.view.service)
+        (λ l ls p r. ReplicaLines-quiet c l ls a.view.id (epoch_of a.view) a.view.checkpoints.newest a.view.service (plain_quiet c ls l p a.view.id.0) r) effects.lines lines plain ties.replica;
   }
     where
-      plain : AllByRecursion (IsPlain c lines) did.lines
-      plain = subst (λ (ls : List Line). AllByRecursion (IsPlain c ls) did.lines) ties.done.printed
-          (all_many (λ (ls : List Line). AllByRecursion (IsPlain c ls) did.lines) (λ l ls p. mapped (IsPlain c ls) (IsPlain c (l ∷ ls)) (IsPlain-more c l ls) did.lines p) a.lines before d.plain)
+      plain : AllByRecursion (IsPlain c lines) effects.lines
+      plain = subst (λ (ls : List Line). AllByRecursion (IsPlain c ls) effects.lines) ties.done.printed
+          (all_many (λ (ls : List Line). AllByRecursion (IsPlain c ls) effects.lines) (λ l ls p. mapped (IsPlain c ls) (IsPlain c (l ∷ ls)) (IsPlain-more c l ls) effects.lines p) a.lines before d.plain)
 
-      frames : AllByRecursion (IsSaid c lines) did.frames
-      frames = subst (λ (ls : List Line). AllByRecursion (IsSaid c ls) did.frames) ties.done.printed (frames_still c a.lines before did.frames d.frames)
+      frames : AllByRecursion (IsSaid c lines) effects.frames
+      frames = subst (λ (ls : List Line). AllByRecursion (IsSaid c ls) effects.frames) ties.done.printed (frames_still c a.lines before effects.frames d.frames)
 
   -- ---- a range is learned, and the merge runs
 
@@ -179,7 +179,7 @@ module _ (c : Config) (before lines : List Line) (a : Acting) (ties : ActLines c
       replies = mapped (IsSaid c lines) (IsSaid c (l ∷ lines)) (IsSaid-more c l lines) a.replies ties.done.replies;
       parts = part_put (l ∷ lines) ring part ordered booked a.view.parts (mapped (PartLines lines) (PartLines (l ∷ lines)) (PartLines-more c l lines) a.view.parts ties.done.parts);
     };
-    replica = ReplicaLines-quiet c l lines a.view.id (epoch_of a.view) a.view.checks.newest a.view.service refl ties.replica;
+    replica = ReplicaLines-quiet c l lines a.view.id (epoch_of a.view) a.view.checkpoints.newest a.view.service refl ties.replica;
   })
     where
       l : Line
@@ -204,7 +204,7 @@ module _ (c : Config) (before lines : List Line) (a : Acting) (ties : ActLines c
 
 -- ---- the end of a step
 
-module _ (c : Config) (before lines : List Line) (a : Acting) (ties : ActLines c before lines a) where
+module _ (c : Config) (before lines : List Line) (a : StepSoFar) (ties : ActLines c before lines a) where
   based : (inst : ℕ) (learner : Learner) (i : ℕ) (value : Value) → value_in (with_base inst learner) i ≡ Some value → value_in learner i ≡ Some value
   based inst learner i value e = go (nat_le inst i) (sym (value_at-entries_from inst learner.held i) ∙ e)
     where
@@ -238,11 +238,11 @@ module _ (c : Config) (before lines : List Line) (a : Acting) (ties : ActLines c
     known = ties.done.known;
     frames = appended (IsSaid c lines) a.frames a.replies ties.done.frames ties.done.replies;
     parts = ties.done.parts;
-    replica = subst (λ (e : ℕ). ReplicaLines c lines a.view.id e a.view.checks.newest a.view.service) (sym (recorded_epoch a.view.journal a.changes ∙ epoch)) ties.replica;
+    replica = subst (λ (e : ℕ). ReplicaLines c lines a.view.id e a.view.checkpoints.newest a.view.service) (sym (recorded_epoch a.view.journal a.changes ∙ epoch)) ties.replica;
   }
 
 -- a step's rules are over
-pub ends : (c : Config) (before lines : List Line) (a : Acting) → ActLines c before lines a → (taken a.changes a.view.journal.state).epoch ≡ a.view.journal.state.epoch → StepLines c before lines a.view.id (finished (rebases a))
+pub ends : (c : Config) (before lines : List Line) (a : StepSoFar) → ActLines c before lines a → (taken a.changes a.view.journal.state).epoch ≡ a.view.journal.state.epoch → StepLines c before lines a.view.id (finished (rebases a))
 ends c before lines a ties epoch = finished_lines c before lines (rebases a) (rebased_lines c before lines a ties) epoch
 
 -- ---- the other nodes

@@ -6,7 +6,7 @@ use Rattle.std.specs.Prelude.{map}
 use Rattle.std.specs.List.{AllByRecursion}
 use Rattle.mrp_config.specs.Config.{Config}
 use Rattle.mrp_config.specs.declared.tables.PartitionTable.{PartitionTable}
-use Rattle.checkpoint.specs.Checks.{Checkpoint, Checks}
+use Rattle.checkpoint.specs.Checkpoints.{Checkpoint, Checkpoints}
 use Rattle.vote_state.specs.declared.change.Change.{Change}
 use Rattle.vote_state.specs.State.{State, taken}
 use Rattle.vote_journal.specs.Journal.{Journal, recorded}
@@ -14,11 +14,11 @@ use Rattle.protocol.specs.Bases.{rebased, rebases}
 use Rattle.protocol.specs.Lines.{Line}
 use Rattle.protocol.specs.Opening.{partition_of}
 use Rattle.protocol.specs.Parts.{Ring}
-use Rattle.protocol.specs.Node.{Acting, RingPart, Service, finished}
+use Rattle.protocol.specs.Node.{StepSoFar, RingPart, Service, finished}
 use Rattle.faithful.specs.Scanners.{past}
 use Rattle.step_lines.proofs.Composing.{ends}
 use Rattle.recovery_lines.specs.Ties.{AreCovered, PartTold, ReplicaLines, ActLines, AfterLines, StepLines, rings_in}
-use Rattle.step_lines.specs.Dids.{AllAgree, AllTold, Onward, Goes, KeptFor, LeftTold}
+use Rattle.step_lines.specs.Effects.{AllAgree, AllTold, Onward, Goes, KeptFor, LeftTold}
 
 recorded_state : (j : Journal) (cs : List Change) → (recorded j cs).state ≡ taken cs j.state
 recorded_state j [] = refl
@@ -37,19 +37,19 @@ module _ (c : Config) (lines : List Line) where
   rebased_told service [] all = tt
   rebased_told service (p ∷ parts) all = (record { round = all.0.round; trim = all.0.trim }, rebased_told service parts all.1)
 
-  rebases_onward : (a : Acting) → Onward c lines a (rebases a)
+  rebases_onward : (a : StepSoFar) → Onward c lines a (rebases a)
   rebases_onward a = record {
     more = [];
     printed = nothing_more a.lines;
     id = refl;
     rings = rebased_rings a.view.service a.view.parts;
     journal = refl;
-    checks = refl;
+    checkpoints = refl;
     told = λ t. record { parts = rebased_told a.view.service a.view.parts t.parts; trims = t.trims; epoch = t.epoch };
   }
 
-  module _ (a : Acting) (told : AllTold c lines a) (kept : KeptFor c lines a.view.id a.view.journal.state.epoch a.view.checks.newest (partition_of c.partitions a.view.id)) where
-    pub finished_left : (b : Acting) → Onward c lines a b → LeftTold c lines a.view.id (rings_in a.view.parts) (finished b)
+  module _ (a : StepSoFar) (told : AllTold c lines a) (kept : KeptFor c lines a.view.id a.view.journal.state.epoch a.view.checkpoints.newest (partition_of c.partitions a.view.id)) where
+    pub finished_left : (b : StepSoFar) → Onward c lines a b → LeftTold c lines a.view.id (rings_in a.view.parts) (finished b)
     finished_left b on =
         let t : AllTold c lines b = on.told told in
         record {
@@ -57,16 +57,16 @@ module _ (c : Config) (lines : List Line) where
           rings_stay = on.rings;
           parts = t.parts;
           covered = subst (λ (s : State). AreCovered c lines s) (sym (recorded_state b.view.journal b.changes)) t.trims;
-          kept = subst (λ (n : ℕ). KeptFor c lines a.view.id n b.view.checks.newest (partition_of c.partitions a.view.id))
+          kept = subst (λ (n : ℕ). KeptFor c lines a.view.id n b.view.checkpoints.newest (partition_of c.partitions a.view.id))
               (sym (ap (λ (s : State). s.epoch) (recorded_state b.view.journal b.changes) ∙ t.epoch ∙ ap (λ (j : Journal). j.state.epoch) on.journal))
-              (subst (λ (k : Checks). KeptFor c lines a.view.id a.view.journal.state.epoch k.newest (partition_of c.partitions a.view.id)) (sym on.checks) kept);
+              (subst (λ (k : Checkpoints). KeptFor c lines a.view.id a.view.journal.state.epoch k.newest (partition_of c.partitions a.view.id)) (sym on.checkpoints) kept);
         }
 
-    pub rebased_left : (b : Acting) → Onward c lines a b → LeftTold c lines a.view.id (rings_in a.view.parts) (finished (rebases b))
+    pub rebased_left : (b : StepSoFar) → Onward c lines a b → LeftTold c lines a.view.id (rings_in a.view.parts) (finished (rebases b))
     rebased_left b on = finished_left (rebases b) (Onward-trans c lines a b (rebases b) on (rebases_onward b))
 
     -- and its lines are right where its learn lines agree
-    pub goes_ends : (b : Acting) → Goes c lines a b → ActLines c lines lines a → AllAgree (past lines b.lines) → (new : List Line) × StepLines c lines new a.view.id (finished (rebases b))
+    pub goes_ends : (b : StepSoFar) → Goes c lines a b → ActLines c lines lines a → AllAgree (past lines b.lines) → (new : List Line) × StepLines c lines new a.view.id (finished (rebases b))
     goes_ends b g ties all =
         let after : AfterLines c lines b = g.right lines ties told all in
         (after.lines, subst (λ (x : NodeId). StepLines c lines after.lines x (finished (rebases b))) g.onward.id (ends c lines after.lines b after.ties (g.onward.told told).epoch))

@@ -17,10 +17,10 @@ use Rattle.mrp_config.specs.Config.{Config}
 use Rattle.ring_link.specs.Silence.{Link}
 use Rattle.frames.specs.declared.body.Body.TheVariants.{Submit, Prepare, Refuse, Accept, Decide, Chosen, Trimmed}
 use Rattle.protocol.specs.Lines.{Line, BallotLimit, InstanceLimit}
-use Rattle.protocol.specs.Parts.{Ring, Part, Role, Idle, Active, Campaign, Did}
+use Rattle.protocol.specs.Parts.{Ring, Part, Role, Idle, Active, Campaign, Effects}
 use Rattle.protocol.specs.Rings.{sends, sends_each, owner_of, is_node, has_bit, with_bit, position_of, next_acceptor, next_member, other_acceptors}
-use Rattle.protocol.specs.Doing.{nothing_done, with_part, with_frames, with_line, with_learned, with_campaign, in_role}
-use Rattle.protocol.specs.Acceptor.{promises, votes_for, trims_to, promise_of, tells_promise, refuses, tells_trim, prepares, goes_on, accepts_at, accepts, tells_ranges, ranges_page, fetches}
+use Rattle.protocol.specs.Effects.{no_effects, with_part, with_frames, with_line, with_learned, with_campaign, in_role}
+use Rattle.protocol.specs.Acceptor.{promises, promises_anew, votes_anew, trims_to, promise_of, tells_promise, refuses, tells_trim, prepares, decides_or_forwards, accepts_at, accepts, tells_ranges, ranges_page, fetches}
 use Rattle.protocol.specs.Ballots.{leads_now, new_campaign, campaigns, own_ballot, Page, with_page, asks_more, counts, reported_past, reported_at, reported, greatest_seen}
 use Rattle.protocol.specs.Coordinator.{starts_with, starts_at, leads, promised, role_refused, refused, most_pending, is_pending, with_pending, passes_on, waits, submits_leading, submits_in, submits}
 use Rattle.protocol.specs.Leading.{is_to_start, starts_idle, starts_on_tick, prepares_again, accepts_again, resends_in, resends, with_tick_taken, shortfall_from, levels_by, levels_in, levels}
@@ -28,40 +28,40 @@ use Rattle.protocol.specs.Learner.{learned_ranges, passed_on, decided, chosen}
 use Rattle.protocol.specs.Proposing.{proposes, proposes_after, offers, has_room, own_mask}
 use Rattle.protocol.specs.Trimming.{trimmed}
 use Rattle.recovery_lines.specs.Ties.{IsSaid, IsCovered}
-use Rattle.step_lines.specs.Dids.{Stays}
-use Rattle.step_lines.proofs.Words.{ring_sends, ring_sends_each, Stays-refl, Stays-trans, stays_frames, stays_line, stays_learned, stays_coordinator, stays_votes, stays_promises, stays_trims, stays_goes_on, stays_offers, proposes_stays}
+use Rattle.step_lines.specs.Effects.{Stays}
+use Rattle.step_lines.proofs.Words.{ring_sends, ring_sends_each, Stays-refl, Stays-trans, stays_frames, stays_line, stays_learned, stays_coordinator, stays_votes_anew, stays_promises, stays_promises_anew, stays_trims, stays_decides_or_forwards, stays_offers, proposes_stays}
 
 module _ (c : Config) (lines : List Line) (ring : Ring) where
-  abbrev Kept : Part → Did → Type 0
-  Kept part did = Stays c lines ring.id (nothing_done part) did
+  abbrev Kept : Part → Effects → Type 0
+  Kept part effects = Stays c lines ring.id (no_effects part) effects
 
-  as_it_is : (part : Part) → Kept part (nothing_done part)
-  as_it_is part = Stays-refl c lines ring.id (nothing_done part)
+  as_it_is : (part : Part) → Kept part (no_effects part)
+  as_it_is part = Stays-refl c lines ring.id (no_effects part)
 
-  if_so : (part : Part) (b : Bool) (x y : Did) → Kept part x → Kept part y → Kept part (if b then x else y)
+  if_so : (part : Part) (b : Bool) (x y : Effects) → Kept part x → Kept part y → Kept part (if b then x else y)
   if_so part true x y p q = p
   if_so part false x y p q = q
 
-  proposes_then : (link : Link) (part : Part) (did : Did) → Kept part did → Kept part (proposes_after ring link did)
-  proposes_then link part did s = Stays-trans c lines ring.id (nothing_done part) did (proposes_after ring link did) s (proposes_stays c lines ring link did)
+  proposes_then : (link : Link) (part : Part) (effects : Effects) → Kept part effects → Kept part (proposes_after ring link effects)
+  proposes_then link part effects s = Stays-trans c lines ring.id (no_effects part) effects (proposes_after ring link effects) s (proposes_stays c lines ring link effects)
 
   -- ---- acceptors
 
   refuses_stays : (to : Option NodeId) (ballot : ℕ) (part : Part) → Kept part (refuses ring to ballot part)
-  refuses_stays to ballot part = stays_frames c lines ring.id (nothing_done part) (sends ring to (Refuse ring.id ballot part.kept.promise)) (λ t. ring_sends c lines ring to (Refuse ring.id ballot part.kept.promise) (λ node. tt))
+  refuses_stays to ballot part = stays_frames c lines ring.id (no_effects part) (sends ring to (Refuse ring.id ballot part.kept.promise)) (λ t. ring_sends c lines ring to (Refuse ring.id ballot part.kept.promise) (λ node. tt))
 
   tells_trim_stays : (to : Option NodeId) (part : Part) → Kept part (tells_trim ring to part)
-  tells_trim_stays to part = stays_frames c lines ring.id (nothing_done part) (sends ring to (Trimmed ring.id part.kept.trim)) (λ t. ring_sends c lines ring to (Trimmed ring.id part.kept.trim) (λ node. t.trim))
+  tells_trim_stays to part = stays_frames c lines ring.id (no_effects part) (sends ring to (Trimmed ring.id part.kept.trim)) (λ t. ring_sends c lines ring to (Trimmed ring.id part.kept.trim) (λ node. t.trim))
 
   pub prepares_stays : (part : Part) (from : NodeId) (ballot lo : ℕ) → Kept part (prepares ring part from ballot lo)
   unfolding prepares
   prepares_stays part from ballot lo =
-      let did : Did = promises ring ballot (nothing_done part) in
-      let told : Did = tells_promise ring from ballot lo did in
-      if_so part (not (is_node from (owner_of ring ballot))) (nothing_done part) _ (as_it_is part)
+      let effects : Effects = promises ring ballot (no_effects part) in
+      let told : Effects = tells_promise ring from ballot lo effects in
+      if_so part (not (is_node from (owner_of ring ballot))) (no_effects part) _ (as_it_is part)
       (if_so part (nat_lt ballot part.kept.promise) (refuses ring (Some from) ballot part) told (refuses_stays (Some from) ballot part)
-      (Stays-trans c lines ring.id (nothing_done part) did told (stays_promises c lines ring ballot (nothing_done part))
-      (stays_frames c lines ring.id did (sends ring (Some from) (promise_of ring ballot lo did.part.kept)) (λ t. ring_sends c lines ring (Some from) (promise_of ring ballot lo did.part.kept) (λ node. t.trim)))))
+      (Stays-trans c lines ring.id (no_effects part) effects told (stays_promises c lines ring ballot (no_effects part))
+      (stays_frames c lines ring.id effects (sends ring (Some from) (promise_of ring ballot lo effects.part.kept)) (λ t. ring_sends c lines ring (Some from) (promise_of ring ballot lo effects.part.kept) (λ node. t.trim)))))
 
   pub accepts_stays : (link : Link) (part : Part) (ballot lo hi mask : ℕ) (value : Value) → Kept part (accepts ring link part ballot lo hi mask value)
   unfolding accepts
@@ -70,27 +70,27 @@ module _ (c : Config) (lines : List Line) (ring : Ring) where
       vote : Voted
       vote = record { lo = lo; hi = hi; ballot = ballot; value = value }
 
-      promised_first : Did
-      promised_first = promises ring vote.ballot (nothing_done part)
+      promised_first : Effects
+      promised_first = promises_anew ring vote.ballot (no_effects part)
 
-      voted : Did
-      voted = votes_for ring vote promised_first
+      voted : Effects
+      voted = votes_anew ring vote promised_first
 
       by_position : (o : Option ℕ) → Kept part (accepts_at ring link part mask vote o)
       by_position None = as_it_is part
       by_position (Some position) =
           if_so part (nat_lt vote.ballot part.kept.promise) (refuses ring (owner_of ring vote.ballot) vote.ballot part) _ (refuses_stays (owner_of ring vote.ballot) vote.ballot part)
           (if_so part (nat_lt vote.lo part.kept.trim) (tells_trim ring (owner_of ring vote.ballot) part) _ (tells_trim_stays (owner_of ring vote.ballot) part)
-          (if_so part (has_bit mask position) (nothing_done part) (goes_on ring link (with_bit mask position) vote voted) (as_it_is part)
-          (Stays-trans c lines ring.id (nothing_done part) voted (goes_on ring link (with_bit mask position) vote voted)
-          (Stays-trans c lines ring.id (nothing_done part) promised_first voted (stays_promises c lines ring vote.ballot (nothing_done part)) (stays_votes c lines ring vote promised_first))
-          (stays_goes_on c lines ring link (with_bit mask position) vote voted))))
+          (if_so part (has_bit mask position) (no_effects part) (decides_or_forwards ring link (with_bit mask position) vote voted) (as_it_is part)
+          (Stays-trans c lines ring.id (no_effects part) voted (decides_or_forwards ring link (with_bit mask position) vote voted)
+          (Stays-trans c lines ring.id (no_effects part) promised_first voted (stays_promises_anew c lines ring vote.ballot (no_effects part)) (stays_votes_anew c lines ring vote promised_first))
+          (stays_decides_or_forwards c lines ring link (with_bit mask position) vote voted))))
 
   pub fetches_stays : (part : Part) (from : NodeId) (lo : ℕ) → Kept part (fetches ring part from lo)
   unfolding fetches
   fetches_stays part from lo =
       if_so part (nat_lt lo part.kept.trim) (tells_trim ring (Some from) part) _ (tells_trim_stays (Some from) part)
-      (stays_frames c lines ring.id (nothing_done part) (tells_ranges ring from (ranges_page (learned_ranges (entries_from lo part.learner.held)))) (λ t. by_ranges (ranges_page (learned_ranges (entries_from lo part.learner.held)))))
+      (stays_frames c lines ring.id (no_effects part) (tells_ranges ring from (ranges_page (learned_ranges (entries_from lo part.learner.held)))) (λ t. by_ranges (ranges_page (learned_ranges (entries_from lo part.learner.held)))))
     where
       by_ranges : (ranges : List Decided) → AllByRecursion (IsSaid c lines) (tells_ranges ring from ranges)
       by_ranges [] = tt
@@ -101,12 +101,12 @@ module _ (c : Config) (lines : List Line) (ring : Ring) where
   pub decided_stays : (link : Link) (part : Part) (lo hi left : ℕ) (value : Value) → Kept part (decided ring link part lo hi left value)
   unfolding decided
   decided_stays link part lo hi left value =
-      let did : Did = passed_on ring link lo hi left value (nothing_done part) in
-      Stays-trans c lines ring.id (nothing_done part) did (with_learned (record { lo = lo; hi = hi; value = value }) did) (by_left left) (stays_learned c lines ring.id did (record { lo = lo; hi = hi; value = value }))
+      let effects : Effects = passed_on ring link lo hi left value (no_effects part) in
+      Stays-trans c lines ring.id (no_effects part) effects (with_learned (record { lo = lo; hi = hi; value = value }) effects) (by_left left) (stays_learned c lines ring.id effects (record { lo = lo; hi = hi; value = value }))
     where
-      by_left : (left : ℕ) → Kept part (passed_on ring link lo hi left value (nothing_done part))
+      by_left : (left : ℕ) → Kept part (passed_on ring link lo hi left value (no_effects part))
       by_left zero = as_it_is part
-      by_left (suc left) = stays_frames c lines ring.id (nothing_done part) (sends ring (next_member ring link) (Decide ring.id lo hi left value)) (λ t. ring_sends c lines ring (next_member ring link) (Decide ring.id lo hi left value) (λ node. tt))
+      by_left (suc left) = stays_frames c lines ring.id (no_effects part) (sends ring (next_member ring link) (Decide ring.id lo hi left value)) (λ t. ring_sends c lines ring (next_member ring link) (Decide ring.id lo hi left value) (λ node. tt))
 
   pub chosen_stays : (part : Part) (ranges : List Decided) → Kept part (chosen ring part ranges)
   unfolding chosen
@@ -114,60 +114,60 @@ module _ (c : Config) (lines : List Line) (ring : Ring) where
 
   pub trimmed_stays : (link : Link) (part : Part) (trim : ℕ) → IsCovered c lines ring.id trim → Kept part (trimmed ring link part trim)
   unfolding trimmed
-  trimmed_stays link part trim covered = proposes_then link part (trims_to ring trim (nothing_done part)) (stays_trims c lines ring trim (nothing_done part) covered)
+  trimmed_stays link part trim covered = proposes_then link part (trims_to ring trim (no_effects part)) (stays_trims c lines ring trim (no_effects part) covered)
 
   -- ---- coordinators
 
-  reported_stays : (from : NodeId) (page : Page) (did : Did) → Stays c lines ring.id did (reported ring from page did)
-  reported_stays from page did = by_role did.part.coordinator.role (position_of ring from)
+  reported_stays : (from : NodeId) (page : Page) (effects : Effects) → Stays c lines ring.id effects (reported ring from page effects)
+  reported_stays from page effects = by_role effects.part.coordinator.role (position_of ring from)
     where
-      by_role : (role : Role) (o : Option ℕ) → Stays c lines ring.id did (reported_at ring from page role o did)
-      by_role Idle o = Stays-refl c lines ring.id did
-      by_role (Active campaign) None = Stays-refl c lines ring.id did
+      by_role : (role : Role) (o : Option ℕ) → Stays c lines ring.id effects (reported_at ring from page role o effects)
+      by_role Idle o = Stays-refl c lines ring.id effects
+      by_role (Active campaign) None = Stays-refl c lines ring.id effects
       by_role (Active campaign) (Some position) = go (slice_index campaign.covered position)
         where
-          go : (covered : ℕ) → Stays c lines ring.id did (reported_past ring from page campaign position covered did)
+          go : (covered : ℕ) → Stays c lines ring.id effects (reported_past ring from page campaign position covered effects)
           go covered = by_counts (counts page campaign.ballot covered)
             where
-              now : Did
-              now = with_part (with_campaign (with_page position covered page campaign) did.part) did
+              now : Effects
+              now = with_part (with_campaign (with_page position covered page campaign) effects.part) effects
 
               more : (b : Bool) → AllByRecursion (IsSaid c lines) (if b then [] else sends ring (Some from) (Prepare ring.id page.ballot page.hi))
               more true = tt
               more false = ring_sends c lines ring (Some from) (Prepare ring.id page.ballot page.hi) (λ node. tt)
 
-              by_counts : (b : Bool) → Stays c lines ring.id did (if b then with_frames (asks_more ring from page) now else did)
-              by_counts false = Stays-refl c lines ring.id did
-              by_counts true = Stays-trans c lines ring.id did now (with_frames (asks_more ring from page) now)
-                  (stays_coordinator c lines ring.id did (in_role (Active (with_page position covered page campaign)) did.part.coordinator))
+              by_counts : (b : Bool) → Stays c lines ring.id effects (if b then with_frames (asks_more ring from page) now else effects)
+              by_counts false = Stays-refl c lines ring.id effects
+              by_counts true = Stays-trans c lines ring.id effects now (with_frames (asks_more ring from page) now)
+                  (stays_coordinator c lines ring.id effects (in_role (Active (with_page position covered page campaign)) effects.part.coordinator))
                   (stays_frames c lines ring.id now (asks_more ring from page) (λ t. more (page.hi == END)))
 
   pub promised_stays : (link : Link) (part : Part) (from : NodeId) (ballot lo hi trim : ℕ) (votes : List Voted) → IsCovered c lines ring.id trim → Kept part (promised ring link part from ballot lo hi trim votes)
   unfolding promised
   promised_stays link part from ballot lo hi trim votes covered =
       let page : Page = record { ballot = ballot; lo = lo; hi = hi; votes = votes } in
-      let cut : Did = trims_to ring trim (nothing_done part) in
+      let cut : Effects = trims_to ring trim (no_effects part) in
       proposes_then link part (reported ring from page cut)
-      (Stays-trans c lines ring.id (nothing_done part) cut (reported ring from page cut) (stays_trims c lines ring trim (nothing_done part) covered) (reported_stays from page cut))
+      (Stays-trans c lines ring.id (no_effects part) cut (reported ring from page cut) (stays_trims c lines ring trim (no_effects part) covered) (reported_stays from page cut))
 
   pub refused_stays : (part : Part) (ballot promise : ℕ) → Kept part (refused ring part ballot promise)
   unfolding refused
-  refused_stays part ballot promise = stays_coordinator c lines ring.id (nothing_done part) (record { top = max part.coordinator.top promise; role = role_refused ballot part.coordinator.role })
+  refused_stays part ballot promise = stays_coordinator c lines ring.id (no_effects part) (record { top = max part.coordinator.top promise; role = role_refused ballot part.coordinator.role })
 
   starts_stays : (link : Link) (part : Part) (ballot : ℕ) → Kept part (starts_with ring link part ballot)
   starts_stays link part ballot =
-      if_so part (nat_le (2 ^ 48) ballot) (with_line (BallotLimit ring.own ring.id) (nothing_done part)) _ (stays_line c lines ring.id (nothing_done part) (BallotLimit ring.own ring.id) tt)
-      (proposes_then link part (campaigns ring ballot did)
-      (Stays-trans c lines ring.id (nothing_done part) did (campaigns ring ballot did) (stays_promises c lines ring ballot (nothing_done part))
-      (Stays-trans c lines ring.id did now (campaigns ring ballot did) (stays_coordinator c lines ring.id did (in_role (Active (new_campaign ring ballot did.part.kept)) did.part.coordinator))
-      (stays_frames c lines ring.id now (sends_each ring (other_acceptors ring) (Prepare ring.id ballot did.part.kept.trim))
-      (λ t. ring_sends_each c lines ring (other_acceptors ring) (Prepare ring.id ballot did.part.kept.trim) (λ node. tt))))))
+      if_so part (nat_le (2 ^ 48) ballot) (with_line (BallotLimit ring.own ring.id) (no_effects part)) _ (stays_line c lines ring.id (no_effects part) (BallotLimit ring.own ring.id) tt)
+      (proposes_then link part (campaigns ring ballot effects)
+      (Stays-trans c lines ring.id (no_effects part) effects (campaigns ring ballot effects) (stays_promises c lines ring ballot (no_effects part))
+      (Stays-trans c lines ring.id effects now (campaigns ring ballot effects) (stays_coordinator c lines ring.id effects (in_role (Active (new_campaign ring ballot effects.part.kept)) effects.part.coordinator))
+      (stays_frames c lines ring.id now (sends_each ring (other_acceptors ring) (Prepare ring.id ballot effects.part.kept.trim))
+      (λ t. ring_sends_each c lines ring (other_acceptors ring) (Prepare ring.id ballot effects.part.kept.trim) (λ node. tt))))))
     where
-      did : Did
-      did = promises ring ballot (nothing_done part)
+      effects : Effects
+      effects = promises ring ballot (no_effects part)
 
-      now : Did
-      now = with_part (with_campaign (new_campaign ring ballot did.part.kept) did.part) did
+      now : Effects
+      now = with_part (with_campaign (new_campaign ring ballot effects.part.kept) effects.part) effects
 
   pub leads_stays : (link : Link) (part : Part) → Kept part (leads ring link part)
   unfolding leads
@@ -185,20 +185,20 @@ module _ (c : Config) (lines : List Line) (ring : Ring) where
       entry = record { client = client; seq = seq; command = command }
 
       passes : (hops : ℕ) → Kept part (passes_on ring part hops entry)
-      passes zero = stays_frames c lines ring.id (nothing_done part) (sends ring (owner_of ring (greatest_seen part)) (Submit ring.id 1 entry.client entry.seq entry.command))
+      passes zero = stays_frames c lines ring.id (no_effects part) (sends ring (owner_of ring (greatest_seen part)) (Submit ring.id 1 entry.client entry.seq entry.command))
           (λ t. ring_sends c lines ring (owner_of ring (greatest_seen part)) (Submit ring.id 1 entry.client entry.seq entry.command) (λ node. tt))
       passes (suc hops) = as_it_is part
 
       waiting : (campaign : Campaign) → Kept part (waits ring link part entry campaign)
       waiting campaign =
           let now : Part = with_campaign (with_pending entry campaign) part in
-          if_so part (is_pending entry campaign.pending) (proposes ring link part) _ (proposes_then link part (nothing_done part) (as_it_is part))
-          (if_so part (nat_le most_pending (length campaign.pending)) (nothing_done part) (proposes ring link now) (as_it_is part)
-          (proposes_then link part (nothing_done now) (stays_coordinator c lines ring.id (nothing_done part) (in_role (Active (with_pending entry campaign)) part.coordinator))))
+          if_so part (is_pending entry campaign.pending) (proposes ring link part) _ (proposes_then link part (no_effects part) (as_it_is part))
+          (if_so part (nat_le most_pending (length campaign.pending)) (no_effects part) (proposes ring link now) (as_it_is part)
+          (proposes_then link part (no_effects now) (stays_coordinator c lines ring.id (no_effects part) (in_role (Active (with_pending entry campaign)) part.coordinator))))
 
       leading : (campaign : Campaign) → Kept part (submits_leading ring link part entry campaign)
-      leading campaign = if_so part (nat_le END campaign.next) (with_line (InstanceLimit ring.own ring.id) (nothing_done part)) (waits ring link part entry campaign)
-          (stays_line c lines ring.id (nothing_done part) (InstanceLimit ring.own ring.id) tt) (waiting campaign)
+      leading campaign = if_so part (nat_le END campaign.next) (with_line (InstanceLimit ring.own ring.id) (no_effects part)) (waits ring link part entry campaign)
+          (stays_line c lines ring.id (no_effects part) (InstanceLimit ring.own ring.id) tt) (waiting campaign)
 
       by_role : (role : Role) → Kept part (submits_in ring link part hops entry role)
       by_role Idle = passes hops
@@ -211,7 +211,7 @@ module _ (c : Config) (lines : List Line) (ring : Ring) where
   starts_on_tick_stays link part = by_role part.coordinator.role
     where
       by_role : (role : Role) → Kept part (starts_idle ring link part role)
-      by_role Idle = if_so part (is_to_start ring link (owner_of ring (greatest_seen part))) (leads ring link part) (nothing_done part) (leads_stays link part) (as_it_is part)
+      by_role Idle = if_so part (is_to_start ring link (owner_of ring (greatest_seen part))) (leads ring link part) (no_effects part) (leads_stays link part) (as_it_is part)
       by_role (Active campaign) = as_it_is part
 
   prepared_again : (ballot : ℕ) (nodes : List NodeId) (covered : List ℕ) → AllByRecursion (IsSaid c lines) (prepares_again ring ballot nodes covered)
@@ -235,9 +235,9 @@ module _ (c : Config) (lines : List Line) (ring : Ring) where
       by_role : (role : Role) → Kept part (resends_in ring link part role)
       by_role Idle = as_it_is part
       by_role (Active campaign) =
-          let now : Did = with_frames (prepares_again ring campaign.ballot ring.acceptors campaign.covered) (nothing_done part) in
-          Stays-trans c lines ring.id (nothing_done part) now (resends_in ring link part (Active campaign))
-          (stays_frames c lines ring.id (nothing_done part) (prepares_again ring campaign.ballot ring.acceptors campaign.covered) (λ t. prepared_again campaign.ballot ring.acceptors campaign.covered))
+          let now : Effects = with_frames (prepares_again ring campaign.ballot ring.acceptors campaign.covered) (no_effects part) in
+          Stays-trans c lines ring.id (no_effects part) now (resends_in ring link part (Active campaign))
+          (stays_frames c lines ring.id (no_effects part) (prepares_again ring campaign.ballot ring.acceptors campaign.covered) (λ t. prepared_again campaign.ballot ring.acceptors campaign.covered))
           (stays_frames c lines ring.id now (accepts_again ring (next_acceptor ring link) campaign.ballot part.kept.trim campaign.outstanding)
           (λ t. accepted_again (next_acceptor ring link) campaign.ballot part.kept.trim campaign.outstanding))
 
@@ -246,11 +246,11 @@ module _ (c : Config) (lines : List Line) (ring : Ring) where
   levels_stays link part = by_role part.coordinator.role
     where
       by_answer : (campaign : Campaign) (o : Option ℕ) → Kept part (levels_by ring link part campaign o)
-      by_answer campaign None = stays_coordinator c lines ring.id (nothing_done part) (in_role (Active campaign) part.coordinator)
-      by_answer campaign (Some missing) = if_so part (has_room ring campaign && nat_lt campaign.next END) (offers ring link campaign (shortfall_from campaign.next missing) 0 (nothing_done part)) (nothing_done (with_campaign campaign part))
-          (stays_offers c lines ring link campaign (shortfall_from campaign.next missing) 0 (nothing_done part)) (stays_coordinator c lines ring.id (nothing_done part) (in_role (Active campaign) part.coordinator))
+      by_answer campaign None = stays_coordinator c lines ring.id (no_effects part) (in_role (Active campaign) part.coordinator)
+      by_answer campaign (Some missing) = if_so part (has_room ring campaign && nat_lt campaign.next END) (proposes_after ring link (offers ring link campaign (shortfall_from campaign.next missing) 0 (no_effects part))) (no_effects (with_campaign campaign part))
+          (proposes_then link part (offers ring link campaign (shortfall_from campaign.next missing) 0 (no_effects part)) (stays_offers c lines ring link campaign (shortfall_from campaign.next missing) 0 (no_effects part))) (stays_coordinator c lines ring.id (no_effects part) (in_role (Active campaign) part.coordinator))
 
       by_role : (role : Role) → Kept part (levels_in ring link part role)
       by_role Idle = as_it_is part
-      by_role (Active campaign) = if_so part (leads_now ring campaign) (levels_by ring link part (with_tick_taken campaign) (answer_of campaign.leveller)) (nothing_done part)
+      by_role (Active campaign) = if_so part (leads_now ring campaign) (levels_by ring link part (with_tick_taken campaign) (answer_of campaign.leveller)) (no_effects part)
           (by_answer (with_tick_taken campaign) (answer_of campaign.leveller)) (as_it_is part)

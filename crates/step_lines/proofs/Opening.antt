@@ -12,11 +12,11 @@ use Rattle.mrp_config.specs.declared.tables.RingTable.{RingTable}
 use Rattle.mrp_config.specs.declared.tables.PartitionTable.{PartitionTable}
 use Rattle.vote_state.specs.State.{State}
 use Rattle.vote_journal.specs.Journal.{Journal}
-use Rattle.checkpoint.specs.Checks.{Checks}
+use Rattle.checkpoint.specs.Checkpoints.{Checkpoints}
 use Rattle.protocol.specs.Lines.{Line, Up}
 use Rattle.protocol.specs.Rings.{ring_of, is_member}
 use Rattle.protocol.specs.Opening.{partition_of, part_of_ring, parts_of, view_of, begins_first, opened}
-use Rattle.protocol.specs.Node.{Acting, Service, Recovering, begun_with, finished}
+use Rattle.protocol.specs.Node.{StepSoFar, Service, Recovering, begun_with, finished}
 use Rattle.protocol.specs.Recovery.{begins}
 use Rattle.recovery_lines.specs.Ties.{IsFit, IsPlaced, AreRight, AreCovered, PartTold, PartLines, KnownLines, KeptLines, OwnLines, DoneLines, AfterLines, StepLines, rings_in}
 use Rattle.quorums.specs.Groups.{Has}
@@ -26,7 +26,7 @@ use Rattle.recovery_lines.proofs.More.{KnownLines-more}
 use Rattle.recovery_lines.proofs.Beginning.{next_begins}
 use Rattle.recovery_lines.proofs.Merging.{merged_all}
 use Rattle.recovery_lines.proofs.Saving.{own_opened}
-use Rattle.step_lines.specs.Dids.{AllTold, Onward, KeptFor, LeftTold}
+use Rattle.step_lines.specs.Effects.{AllTold, Onward, KeptFor, LeftTold}
 use Rattle.step_lines.proofs.Composing.{finished_lines}
 
 -- a ring that stands in a list is found there
@@ -71,33 +71,33 @@ module _ (c : Config) (lines : List Line) (id : NodeId) (state : State) where
       go true rest = (record { fits_node = fits; fits_ring = ring_there c.rings ring (sub ring (inl refl)); own = refl; subscribers = refl }, rest)
       go false rest = rest
 
-module _ (c : Config) (fit : IsFit c) (lines : List Line) (id : NodeId) (journal : Journal) (checks : Checks) (epoch : ℕ) (same : journal.state.epoch ≡ epoch + 1)
-    (kept : KeptFor c lines id epoch checks.newest (partition_of c.partitions id)) where
-  begins_onward_first : (now : List Line) (o : Option PartitionTable) → Onward c now (begun_with (view_of c id journal checks)) (begins_first c o (begun_with (view_of c id journal checks)))
-  begins_onward_first now None = Onward-refl c now (begun_with (view_of c id journal checks))
-  begins_onward_first now (Some p) = begins_onward c now (record { partition = p; attempts = 0; stage = Recovering (record { number = 0; ticks = 0; answers = []; choice = None }) }) (begun_with (view_of c id journal checks))
+module _ (c : Config) (fit : IsFit c) (lines : List Line) (id : NodeId) (journal : Journal) (checkpoints : Checkpoints) (epoch : ℕ) (same : journal.state.epoch ≡ epoch + 1)
+    (kept : KeptFor c lines id epoch checkpoints.newest (partition_of c.partitions id)) where
+  begins_onward_first : (now : List Line) (o : Option PartitionTable) → Onward c now (begun_with (view_of c id journal checkpoints)) (begins_first c o (begun_with (view_of c id journal checkpoints)))
+  begins_onward_first now None = Onward-refl c now (begun_with (view_of c id journal checkpoints))
+  begins_onward_first now (Some p) = begins_onward c now (record { partition = p; attempts = 0; stage = Recovering (record { number = 0; ticks = 0; answers = []; choice = None }) }) (begun_with (view_of c id journal checkpoints))
 
-  told_now : AreCovered c (Up id (epoch + 1) ∷ lines) journal.state → AllTold c (Up id (epoch + 1) ∷ lines) (begun_with (view_of c id journal checks))
+  told_now : AreCovered c (Up id (epoch + 1) ∷ lines) journal.state → AllTold c (Up id (epoch + 1) ∷ lines) (begun_with (view_of c id journal checkpoints))
   told_now covered = record { parts = told_fresh c (Up id (epoch + 1) ∷ lines) id journal.state covered c.rings; trims = covered; epoch = refl }
 
-  kept_now : KeptFor c (Up id (epoch + 1) ∷ lines) id journal.state.epoch checks.newest (partition_of c.partitions id)
+  kept_now : KeptFor c (Up id (epoch + 1) ∷ lines) id journal.state.epoch checkpoints.newest (partition_of c.partitions id)
   kept_now = go (partition_of c.partitions id) refl kept
     where
-      go : (o : Option PartitionTable) → partition_of c.partitions id ≡ o → KeptFor c lines id epoch checks.newest o → KeptFor c (Up id (epoch + 1) ∷ lines) id journal.state.epoch checks.newest o
+      go : (o : Option PartitionTable) → partition_of c.partitions id ≡ o → KeptFor c lines id epoch checkpoints.newest o → KeptFor c (Up id (epoch + 1) ∷ lines) id journal.state.epoch checkpoints.newest o
       go None e k = tt
-      go (Some p) e k = subst (λ (n : ℕ). KeptLines c (Up id (epoch + 1) ∷ lines) id n p checks.newest) (sym same) (own_opened c lines id epoch p checks.newest e k).kept
+      go (Some p) e k = subst (λ (n : ℕ). KeptLines c (Up id (epoch + 1) ∷ lines) id n p checkpoints.newest) (sym same) (own_opened c lines id epoch p checkpoints.newest e k).kept
 
   -- what the opening leaves, with respect to the lines with its up line
-  pub opened_left : AreCovered c (Up id (epoch + 1) ∷ lines) journal.state → LeftTold c (Up id (epoch + 1) ∷ lines) id (rings_in (parts_of c id journal.state c.rings)) (opened c id journal checks)
+  pub opened_left : AreCovered c (Up id (epoch + 1) ∷ lines) journal.state → LeftTold c (Up id (epoch + 1) ∷ lines) id (rings_in (parts_of c id journal.state c.rings)) (opened c id journal checkpoints)
   unfolding opened
-  opened_left covered = finished_left c (Up id (epoch + 1) ∷ lines) (begun_with (view_of c id journal checks)) (told_now covered) kept_now (begins_first c (partition_of c.partitions id) (begun_with (view_of c id journal checks)))
+  opened_left covered = finished_left c (Up id (epoch + 1) ∷ lines) (begun_with (view_of c id journal checkpoints)) (told_now covered) kept_now (begins_first c (partition_of c.partitions id) (begun_with (view_of c id journal checkpoints)))
       (begins_onward_first (Up id (epoch + 1) ∷ lines) (partition_of c.partitions id))
 
-  pub opened_lines : AreRight c lines → KnownLines c lines → AreCovered c (Up id (epoch + 1) ∷ lines) journal.state → (new : List Line) × StepLines c (Up id (epoch + 1) ∷ lines) new id (opened c id journal checks)
+  pub opened_lines : AreRight c lines → KnownLines c lines → AreCovered c (Up id (epoch + 1) ∷ lines) journal.state → (new : List Line) × StepLines c (Up id (epoch + 1) ∷ lines) new id (opened c id journal checkpoints)
   unfolding opened begins
   opened_lines right known covered = by_partition (partition_of c.partitions id) refl kept
     where
-      done : DoneLines c (Up id (epoch + 1) ∷ lines) (Up id (epoch + 1) ∷ lines) (begun_with (view_of c id journal checks))
+      done : DoneLines c (Up id (epoch + 1) ∷ lines) (Up id (epoch + 1) ∷ lines) (begun_with (view_of c id journal checkpoints))
       done = record {
         printed = refl;
         own = tt;
@@ -108,23 +108,23 @@ module _ (c : Config) (fit : IsFit c) (lines : List Line) (id : NodeId) (journal
         parts = parts_fresh c (Up id (epoch + 1) ∷ lines) id journal.state c.rings;
       }
 
-      on : (o : Option PartitionTable) → Onward c (Up id (epoch + 1) ∷ lines) (begun_with (view_of c id journal checks)) (begins_first c o (begun_with (view_of c id journal checks)))
+      on : (o : Option PartitionTable) → Onward c (Up id (epoch + 1) ∷ lines) (begun_with (view_of c id journal checkpoints)) (begins_first c o (begun_with (view_of c id journal checkpoints)))
       on o = begins_onward_first (Up id (epoch + 1) ∷ lines) o
 
-      finish : (o : Option PartitionTable) → AfterLines c (Up id (epoch + 1) ∷ lines) (begins_first c o (begun_with (view_of c id journal checks)))
-          → (new : List Line) × StepLines c (Up id (epoch + 1) ∷ lines) new id (finished (begins_first c o (begun_with (view_of c id journal checks))))
+      finish : (o : Option PartitionTable) → AfterLines c (Up id (epoch + 1) ∷ lines) (begins_first c o (begun_with (view_of c id journal checkpoints)))
+          → (new : List Line) × StepLines c (Up id (epoch + 1) ∷ lines) new id (finished (begins_first c o (begun_with (view_of c id journal checkpoints))))
       finish o after =
-          let b : Acting = begins_first c o (begun_with (view_of c id journal checks)) in (
+          let b : StepSoFar = begins_first c o (begun_with (view_of c id journal checkpoints)) in (
             after.lines,
             subst (λ (x : NodeId). StepLines c (Up id (epoch + 1) ∷ lines) after.lines x (finished b)) (on o).id
                 (finished_lines c (Up id (epoch + 1) ∷ lines) after.lines b after.ties ((on o).told (told_now covered)).epoch),
           )
 
-      by_partition : (o : Option PartitionTable) → partition_of c.partitions id ≡ o → KeptFor c lines id epoch checks.newest o
-          → (new : List Line) × StepLines c (Up id (epoch + 1) ∷ lines) new id (finished (begins_first c o (begun_with (view_of c id journal checks))))
+      by_partition : (o : Option PartitionTable) → partition_of c.partitions id ≡ o → KeptFor c lines id epoch checkpoints.newest o
+          → (new : List Line) × StepLines c (Up id (epoch + 1) ∷ lines) new id (finished (begins_first c o (begun_with (view_of c id journal checkpoints))))
       by_partition None e k = finish None (record { lines = Up id (epoch + 1) ∷ lines; ties = record { done = done; replica = e } })
       by_partition (Some p) e k =
           let service : Service = record { partition = p; attempts = 0; stage = Recovering (record { number = 0; ticks = 0; answers = []; choice = None }) } in
-          let own : OwnLines c (Up id (epoch + 1) ∷ lines) id journal.state.epoch checks.newest p 0 =
-          subst (λ (n : ℕ). OwnLines c (Up id (epoch + 1) ∷ lines) id n checks.newest p 0) (sym same) (own_opened c lines id epoch p checks.newest e k) in
-          finish (Some p) (next_begins c fit (Up id (epoch + 1) ∷ lines) (merged_all c fit (Up id (epoch + 1) ∷ lines)) service (begun_with (view_of c id journal checks)) (Up id (epoch + 1) ∷ lines) done own)
+          let own : OwnLines c (Up id (epoch + 1) ∷ lines) id journal.state.epoch checkpoints.newest p 0 =
+          subst (λ (n : ℕ). OwnLines c (Up id (epoch + 1) ∷ lines) id n checkpoints.newest p 0) (sym same) (own_opened c lines id epoch p checkpoints.newest e k) in
+          finish (Some p) (next_begins c fit (Up id (epoch + 1) ∷ lines) (merged_all c fit (Up id (epoch + 1) ∷ lines)) service (begun_with (view_of c id journal checkpoints)) (Up id (epoch + 1) ∷ lines) done own)

@@ -1,6 +1,6 @@
 -- A round of trimming that ends: what it makes a trim line was told by each subscribed partition's trim quorum.
 use Rattle.protocol.specs.Ballots.{role_leads}
-use Rattle.step_lines.specs.Dids.{Stays}
+use Rattle.step_lines.specs.Effects.{Stays}
 use Rattle.std.proofs.Common.{◌≡◌, ℕ, suc, ◌<◌, ◌≤◌, ◌⊎◌, inl, inr, Bool, true, false, List, [], ◌∷◌, ◌++◌, Option, Some, None, refl, sym, ◌∙◌, subst, arith, true≢false, le_refl, le_trans}
 use Rattle.std.specs.Prelude.{◌==◌, nat_lt, nat_le, ◌&&◌, not, if◌then◌else◌, min}
 use Rattle.std.specs.List.{AllByRecursion}
@@ -14,9 +14,9 @@ use Rattle.ring_link.specs.Silence.{Link}
 use Rattle.frames.specs.declared.body.Body.TheVariants.{AskSafe, TrimTo}
 use Rattle.plain_model.proofs.TupleOrder.{split_and}
 use Rattle.protocol.specs.Lines.{Line, Trim}
-use Rattle.protocol.specs.Parts.{Ring, Round, Part, Did}
+use Rattle.protocol.specs.Parts.{Ring, Round, Part, Effects}
 use Rattle.protocol.specs.Rings.{sends_each, subscribers_of, other_acceptors, replicas_of, by_id, is_subscribed}
-use Rattle.protocol.specs.Doing.{nothing_done, with_part, with_frames, with_line}
+use Rattle.protocol.specs.Effects.{no_effects, with_part, with_frames, with_line}
 use Rattle.protocol.specs.Acceptor.{trims_to}
 use Rattle.protocol.specs.Trimming.{has_answered, answered_of, have_quorums, least_of, least_above_last, least_where, is_answered, least, with_answer, in_round, trims_all, trims_above, ends_by, goes_on_round, with_own_answer, next_round, with_asked, asks, answers_in, answers, asks_round, with_current}
 use Rattle.faithful.specs.Scanners.{told, some_reaches}
@@ -129,29 +129,29 @@ module _ (c : Config) (lines : List Line) where
 
     -- ---- a round that may end
 
-    ends_stays : (link : Link) (round : Round) (did : Did) → RoundLines c lines ring.id round.answers → Stays c lines ring.id did (goes_on_round ring link round did)
-    ends_stays link round did r = by_least (least ring round) refl
+    ends_stays : (link : Link) (round : Round) (effects : Effects) → RoundLines c lines ring.id round.answers → Stays c lines ring.id effects (goes_on_round ring link round effects)
+    ends_stays link round effects r = by_least (least ring round) refl
       where
-        now : Did
-        now = with_part (in_round None did.part) did
+        now : Effects
+        now = with_part (in_round None effects.part) effects
 
-        first : Stays c lines ring.id did now
-        first = stays_rounds c lines ring.id did (with_current None did.part.rounds) tt
+        first : Stays c lines ring.id effects now
+        first = stays_rounds c lines ring.id effects (with_current None effects.part.rounds) tt
 
-        by_least : (o : Option ℕ) → least ring round ≡ o → Stays c lines ring.id did (ends_by ring link round did o)
-        by_least None e = stays_rounds c lines ring.id did (with_current (Some round) did.part.rounds) r
+        by_least : (o : Option ℕ) → least ring round ≡ o → Stays c lines ring.id effects (ends_by ring link round effects o)
+        by_least None e = stays_rounds c lines ring.id effects (with_current (Some round) effects.part.rounds) r
         by_least (Some inst) e =
-            Stays-trans c lines ring.id did (trims_above ring inst now) (ends_by ring link round did (Some inst))
-            (Stays-trans c lines ring.id did now (trims_above ring inst now) first (by_test (Stays c lines ring.id now) (nat_lt now.part.kept.trim inst) (trims_all ring inst now) now (λ t. all) (Stays-refl c lines ring.id now)))
+            Stays-trans c lines ring.id effects (trims_above ring inst now) (ends_by ring link round effects (Some inst))
+            (Stays-trans c lines ring.id effects now (trims_above ring inst now) first (by_test (Stays c lines ring.id now) (nat_lt now.part.kept.trim inst) (trims_all ring inst now) now (λ t. all) (Stays-refl c lines ring.id now)))
             (proposes_stays c lines ring link (trims_above ring inst now))
           where
             told : AllHaveTold lines ring.id inst (subscribers_of c.partitions ring.id)
             told = least_told round inst r e
 
-            lined : Did
+            lined : Effects
             lined = with_line (Trim ring.own ring.id inst) now
 
-            cut : Did
+            cut : Effects
             cut = trims_to ring inst lined
 
             all : Stays c lines ring.id now (trims_all ring inst now)
@@ -162,29 +162,29 @@ module _ (c : Config) (lines : List Line) where
 
     -- Safe
     pub answers_stays : (link : Link) (part : Part) (from : NodeId) (number inst : ℕ) → CurrentLines c lines ring.id part.rounds.current → IsSafe c lines ring.id (from, inst)
-        → Stays c lines ring.id (nothing_done part) (answers ring link part from number inst)
+        → Stays c lines ring.id (no_effects part) (answers ring link part from number inst)
     unfolding answers
     answers_stays link part from number inst current safe = by_round part.rounds.current current
       where
-        by_round : (o : Option Round) → CurrentLines c lines ring.id o → Stays c lines ring.id (nothing_done part) (answers_in ring link part from number inst o)
-        by_round None r = Stays-refl c lines ring.id (nothing_done part)
-        by_round (Some round) r = by_test (Stays c lines ring.id (nothing_done part)) (number == round.number) (goes_on_round ring link (with_answer ring from inst round) (nothing_done part)) (nothing_done part)
-            (λ e. ends_stays link (with_answer ring from inst round) (nothing_done part) (answer_lines from inst round r safe)) (Stays-refl c lines ring.id (nothing_done part))
+        by_round : (o : Option Round) → CurrentLines c lines ring.id o → Stays c lines ring.id (no_effects part) (answers_in ring link part from number inst o)
+        by_round None r = Stays-refl c lines ring.id (no_effects part)
+        by_round (Some round) r = by_test (Stays c lines ring.id (no_effects part)) (number == round.number) (goes_on_round ring link (with_answer ring from inst round) (no_effects part)) (no_effects part)
+            (λ e. ends_stays link (with_answer ring from inst round) (no_effects part) (answer_lines from inst round r safe)) (Stays-refl c lines ring.id (no_effects part))
 
     -- a round is asked, with the own answer
-    pub asks_stays : (link : Link) (part : Part) (own_safe : Option ℕ) → ((inst : ℕ) → own_safe ≡ Some inst → IsSafe c lines ring.id (ring.own, inst)) → Stays c lines ring.id (nothing_done part) (asks_round ring link part own_safe)
+    pub asks_stays : (link : Link) (part : Part) (own_safe : Option ℕ) → ((inst : ℕ) → own_safe ≡ Some inst → IsSafe c lines ring.id (ring.own, inst)) → Stays c lines ring.id (no_effects part) (asks_round ring link part own_safe)
     unfolding asks_round
-    asks_stays link part own_safe safe = by_test (Stays c lines ring.id (nothing_done part)) (role_leads ring part.coordinator.role) (asks ring link part own_safe) (nothing_done part)
-        (λ e. Stays-trans c lines ring.id (nothing_done part) asked (asks ring link part own_safe)
-        (Stays-trans c lines ring.id (nothing_done part) (nothing_done (with_asked part)) asked
-        (stays_rounds c lines ring.id (nothing_done part) (record { asked = suc part.rounds.asked; current = None }) tt)
-        (stays_frames c lines ring.id (nothing_done (with_asked part)) (sends_each ring (by_id (replicas_of ring.subscribers)) (AskSafe ring.id (suc part.rounds.asked)))
+    asks_stays link part own_safe safe = by_test (Stays c lines ring.id (no_effects part)) (role_leads ring part.coordinator.role) (asks ring link part own_safe) (no_effects part)
+        (λ e. Stays-trans c lines ring.id (no_effects part) asked (asks ring link part own_safe)
+        (Stays-trans c lines ring.id (no_effects part) (no_effects (with_asked part)) asked
+        (stays_rounds c lines ring.id (no_effects part) (record { asked = suc part.rounds.asked; current = None }) tt)
+        (stays_frames c lines ring.id (no_effects (with_asked part)) (sends_each ring (by_id (replicas_of ring.subscribers)) (AskSafe ring.id (suc part.rounds.asked)))
         (λ t. ring_sends_each c lines ring (by_id (replicas_of ring.subscribers)) (AskSafe ring.id (suc part.rounds.asked)) (λ node. tt))))
         (ends_stays link (with_own_answer ring own_safe (next_round part)) asked (by_own own_safe refl)))
-        (Stays-refl c lines ring.id (nothing_done part))
+        (Stays-refl c lines ring.id (no_effects part))
       where
-        asked : Did
-        asked = with_frames (sends_each ring (by_id (replicas_of ring.subscribers)) (AskSafe ring.id (suc part.rounds.asked))) (nothing_done (with_asked part))
+        asked : Effects
+        asked = with_frames (sends_each ring (by_id (replicas_of ring.subscribers)) (AskSafe ring.id (suc part.rounds.asked))) (no_effects (with_asked part))
 
         by_own : (o : Option ℕ) → own_safe ≡ o → RoundLines c lines ring.id (with_own_answer ring o (next_round part)).answers
         by_own None e = record { different = tt; safe = tt }

@@ -21,19 +21,19 @@ use Rattle.frames.specs.declared.body.Body.TheVariants.{Submit}
 use Rattle.protocol.specs.Lines.{Line}
 use Rattle.protocol.specs.Opening.{partition_of}
 use Rattle.step_lines.proofs.Ticks.{OwnTold}
-use Rattle.protocol.specs.Node.{Acting, View, Service, Stage, Recovering, Ready, Standing, Event, Ticks, Takes, Leads, Stepped, begun_with, finished}
-use Rattle.protocol.specs.Step.{takes_from, step}
+use Rattle.protocol.specs.Node.{StepSoFar, View, Service, Stage, Recovering, Ready, Standing, Event, Ticks, Takes, Leads, Stepped, begun_with, finished}
+use Rattle.protocol.specs.Step.{handles_from, step}
 use Rattle.protocol.specs.Tick.{is_due_to_compact, compacts, saves, saves_stage, saves_first, or_compacts, beats, ticks, is_due_to_save}
 use Rattle.faithful.specs.Scanners.{past}
 use Rattle.recovery_lines.specs.Ties.{IsFit, IsPlaced, PartySaid, PartTold, ReplicaLines, StageLines, ReadyLines, ActLines, StepLines, ViewLines, rings_in, AreCovered, OwnLines}
-use Rattle.step_lines.specs.Dids.{EventSaid, AllAgree, AllTold, Goes, KeptFor, LeftTold}
+use Rattle.step_lines.specs.Effects.{EventSaid, AllAgree, AllTold, Goes, KeptFor, LeftTold}
 
 module _ (c : Config) (fit : IsFit c) (lines : List Line) (view : View) (ties : ViewLines c lines view) (placed : AllByRecursion (IsPlaced c view.id) (rings_in view.parts))
     (parts : AllByRecursion (PartTold c lines) view.parts) (covered : AreCovered c lines view.journal.state) where
-  kept : KeptFor c lines view.id view.journal.state.epoch view.checks.newest (partition_of c.partitions view.id)
-  kept = kept_for c lines view.id view.journal.state.epoch view.checks.newest view.service ties.replica
+  kept : KeptFor c lines view.id view.journal.state.epoch view.checkpoints.newest (partition_of c.partitions view.id)
+  kept = kept_for c lines view.id view.journal.state.epoch view.checkpoints.newest view.service ties.replica
 
-  own_told : (p : PartitionTable) → partition_of c.partitions view.id ≡ Some p → OwnTold c lines view.id view.checks.newest p
+  own_told : (p : PartitionTable) → partition_of c.partitions view.id ≡ Some p → OwnTold c lines view.id view.checkpoints.newest p
   own_told p there = by_service view.service ties.replica
     where
       none_some : partition_of c.partitions view.id ≡ None → ⊥
@@ -45,9 +45,9 @@ module _ (c : Config) (fit : IsFit c) (lines : List Line) (view : View) (ties : 
       some_same : (u v : PartitionTable) → Some u ≡ Some v → u ≡ v
       some_same u v e = cc
 
-      by_service : (o : Option Service) → ReplicaLines c lines view.id view.journal.state.epoch view.checks.newest o → OwnTold c lines view.id view.checks.newest p
+      by_service : (o : Option Service) → ReplicaLines c lines view.id view.journal.state.epoch view.checkpoints.newest o → OwnTold c lines view.id view.checkpoints.newest p
       by_service None r = absurd (none_some r)
-      by_service (Some s) r = subst (λ (q : PartitionTable). OwnTold c lines view.id view.checks.newest q) (some_same s.partition p (sym r.own.replica ∙ there)) (record { told = r.told; valid = r.own.kept.valid })
+      by_service (Some s) r = subst (λ (q : PartitionTable). OwnTold c lines view.id view.checkpoints.newest q) (some_same s.partition p (sym r.own.replica ∙ there)) (record { told = r.told; valid = r.own.kept.valid })
 
   -- ---- what is begun
 
@@ -58,11 +58,11 @@ module _ (c : Config) (fit : IsFit c) (lines : List Line) (view : View) (ties : 
   on_lines link beat = record { done = record { printed = refl; own = tt; right = ties.right; known = ties.known; frames = tt; replies = tt; parts = ties.parts }; replica = ties.replica }
 
   -- what a step leaves, and its lines
-  record Whole (did : Stepped) : Type 0 where
-    left : LeftTold c lines view.id (rings_in view.parts) did
-    right : AllAgree (past lines did.lines) → (new : List Line) × StepLines c lines new view.id did
+  record Whole (effects : Stepped) : Type 0 where
+    left : LeftTold c lines view.id (rings_in view.parts) effects
+    right : AllAgree (past lines effects.lines) → (new : List Line) × StepLines c lines new view.id effects
 
-  whole_on : (link : Link) (beat : ℕ) (b : Acting) → Goes c lines (begun_with (record view { link = link; beat = beat })) b → Whole (finished (rebases b))
+  whole_on : (link : Link) (beat : ℕ) (b : StepSoFar) → Goes c lines (begun_with (record view { link = link; beat = beat })) b → Whole (finished (rebases b))
   whole_on link beat b g = record {
     left = rebased_left c lines (begun_with (record view { link = link; beat = beat })) (on_told link beat) kept b g.onward;
     right = λ all. goes_ends c lines (begun_with (record view { link = link; beat = beat })) (on_told link beat) kept b g (on_lines link beat) all;
@@ -70,15 +70,15 @@ module _ (c : Config) (fit : IsFit c) (lines : List Line) (view : View) (ties : 
 
   -- ---- ticks
 
-  saved_whole : (o : Option Stepped) → saves_first c view view.service ≡ o → SavedOr c fit lines view ties o → (did : Stepped) → o ≡ Some did → Whole did
-  saved_whole None e s did f = absurd (cc)
-  saved_whole (Some saved) e s did f = subst Whole (same saved did f) (record { left = by_service view.service ties.replica e; right = λ all. s })
+  saved_whole : (o : Option Stepped) → saves_first c view view.service ≡ o → SavedOr c fit lines view ties o → (effects : Stepped) → o ≡ Some effects → Whole effects
+  saved_whole None e s effects f = absurd (cc)
+  saved_whole (Some saved) e s effects f = subst Whole (same saved effects f) (record { left = by_service view.service ties.replica e; right = λ all. s })
     where
       same : (u v : Stepped) → Some u ≡ Some v → u ≡ v
       same u v g = cc
 
-      by_due : (s : Service) (standing : Standing) (due : Bool) → OwnLines c lines view.id view.journal.state.epoch view.checks.newest s.partition s.attempts
-          → ReadyLines c lines view.id view.checks.newest s.partition standing.tuple standing.delivered
+      by_due : (s : Service) (standing : Standing) (due : Bool) → OwnLines c lines view.id view.journal.state.epoch view.checkpoints.newest s.partition s.attempts
+          → ReadyLines c lines view.id view.checkpoints.newest s.partition standing.tuple standing.delivered
           → (if due then Some (saves view s standing (state_bytes standing.replica)) else None) ≡ Some saved → LeftTold c lines view.id (rings_in view.parts) saved
       by_due s standing false own r g = absurd (cc)
       by_due s standing true own r g = subst (λ (q : Stepped). LeftTold c lines view.id (rings_in view.parts) q) (same (saves view s standing (state_bytes standing.replica)) saved g) (record {
@@ -87,15 +87,15 @@ module _ (c : Config) (fit : IsFit c) (lines : List Line) (view : View) (ties : 
         parts = parts;
         covered = covered;
         kept = subst (λ (q : Option PartitionTable). KeptFor c lines view.id view.journal.state.epoch (Some (record { tuple = standing.tuple; state = state_bytes standing.replica })) q) (sym own.replica)
-            (kept_saved c lines view.id view.journal.state.epoch s.partition view.checks.newest s.attempts standing (state_bytes standing.replica) own r);
+            (kept_saved c lines view.id view.journal.state.epoch s.partition view.checkpoints.newest s.attempts standing (state_bytes standing.replica) own r);
       })
 
-      by_stage : (s : Service) (stage : Stage) → OwnLines c lines view.id view.journal.state.epoch view.checks.newest s.partition s.attempts
-          → StageLines c lines view.id view.journal.state.epoch view.checks.newest s.partition stage → saves_stage c view s stage ≡ Some saved → LeftTold c lines view.id (rings_in view.parts) saved
+      by_stage : (s : Service) (stage : Stage) → OwnLines c lines view.id view.journal.state.epoch view.checkpoints.newest s.partition s.attempts
+          → StageLines c lines view.id view.journal.state.epoch view.checkpoints.newest s.partition stage → saves_stage c view s stage ≡ Some saved → LeftTold c lines view.id (rings_in view.parts) saved
       by_stage s (Recovering attempt) own st g = absurd (cc)
       by_stage s (Ready standing) own st g = by_due s standing (is_due_to_save c view standing) own st g
 
-      by_service : (o : Option Service) → ReplicaLines c lines view.id view.journal.state.epoch view.checks.newest o → saves_first c view o ≡ Some saved → LeftTold c lines view.id (rings_in view.parts) saved
+      by_service : (o : Option Service) → ReplicaLines c lines view.id view.journal.state.epoch view.checkpoints.newest o → saves_first c view o ≡ Some saved → LeftTold c lines view.id (rings_in view.parts) saved
       by_service None r g = absurd (cc)
       by_service (Some s) r g = by_stage s s.stage r.own r.stage g
 
@@ -119,16 +119,16 @@ module _ (c : Config) (fit : IsFit c) (lines : List Line) (view : View) (ties : 
 
       by_saved : (o : Option Stepped) → saves_first c view view.service ≡ o → Whole (or_compacts c view o)
       by_saved None e = by_compact (is_due_to_compact c view)
-      by_saved (Some did) e = saved_whole (saves_first c view view.service) refl (saves_lines c fit lines view ties) did e
+      by_saved (Some effects) e = saved_whole (saves_first c view view.service) refl (saves_lines c fit lines view ties) effects e
 
   -- ---- frames and orders
 
-  from_goes : (party : Party) (body : Body) → PartySaid c lines party (Node view.id) body → Whole (finished (rebases (takes_from c party body (begun_with view))))
+  from_goes : (party : Party) (body : Body) → PartySaid c lines party (Node view.id) body → Whole (finished (rebases (handles_from c party body (begun_with view))))
   from_goes (Node from) body said =
-      whole_on (with_heard from.0 view.link) view.beat (takes_from c (Node from) body (begun_with view)) (body_goes c fit lines (begun_with (record view { link = with_heard from.0 view.link })) placed from body said)
-  from_goes (Client from) body said = whole_on view.link view.beat (takes_from c (Client from) body (begun_with view)) (by_body body)
+      whole_on (with_heard from.0 view.link) view.beat (handles_from c (Node from) body (begun_with view)) (body_goes c fit lines (begun_with (record view { link = with_heard from.0 view.link })) placed from body said)
+  from_goes (Client from) body said = whole_on view.link view.beat (handles_from c (Client from) body (begun_with view)) (by_body body)
     where
-      by_body : (body : Body) → Goes c lines (begun_with view) (takes_from c (Client from) body (begun_with view))
+      by_body : (body : Body) → Goes c lines (begun_with view) (handles_from c (Client from) body (begun_with view))
       by_body (Submit ring hops client seq command) = submit_goes c fit lines (begun_with view) placed ring hops client seq command
       by_body other = Goes-refl c lines (begun_with view)
 

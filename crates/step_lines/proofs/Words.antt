@@ -2,7 +2,7 @@
 use Rattle.plain_model.proofs.TupleAt.{by_number}
 use Rattle.vote_state.specs.declared.ring.RingState.{RingState}
 use Rattle.recovery_lines.proofs.Printing.{said_sends}
-use Rattle.step_lines.specs.Dids.{Stays, IsPlain, DidTold}
+use Rattle.step_lines.specs.Effects.{Stays, IsPlain, EffectsTold}
 use Rattle.std.proofs.Common.{◌≡◌, ℕ, zero, suc, ◌⊎◌, inl, inr, List, [], ◌∷◌, ◌++◌, Option, Some, None, refl, sym, ◌∙◌, ap, subst, slice_index_or, slice_set}
 use Rattle.std.specs.Prelude.{◌==◌, nat_le, length, ◌-◌, count_ones}
 use Rattle.std.specs.List.{AllByRecursion}
@@ -21,10 +21,10 @@ use Rattle.frames.specs.declared.body.Body.{Body}
 use Rattle.frames.specs.declared.body.Body.TheVariants.{Accept, Decide}
 use Rattle.frames.specs.declared.sent.Sent.{Sent}
 use Rattle.protocol.specs.Lines.{Line}
-use Rattle.protocol.specs.Parts.{Ring, Rounds, Role, Idle, Active, Campaign, Did, Coordinator}
+use Rattle.protocol.specs.Parts.{Ring, Rounds, Role, Idle, Active, Campaign, Effects, Coordinator}
 use Rattle.protocol.specs.Rings.{sends, sends_each, majority_of, next_acceptor, next_member}
-use Rattle.protocol.specs.Doing.{with_part, with_frames, with_line, with_change, with_kept, with_learned, with_rounds, in_role, with_campaign, with_coordinator}
-use Rattle.protocol.specs.Acceptor.{votes_for, trims_to, goes_on, decides, first_decide, promises, promised_part}
+use Rattle.protocol.specs.Effects.{with_part, with_frames, with_line, with_change, with_kept, with_learned, with_rounds, in_role, with_campaign, with_coordinator}
+use Rattle.protocol.specs.Acceptor.{votes_for, promises_anew, votes_anew, trims_to, decides_or_forwards, decides, first_decide, promises, promised_part}
 use Rattle.protocol.specs.Learner.{without_finished, decided_of}
 use Rattle.protocol.specs.Proposing.{Choice, Rests, Offers, choice, offers, own_mask, vote_of, after_offer, Turn, Stops, Proposes, turn_by, turn_in, turn_of, advanced, proposing, proposes_after}
 use Rattle.recovery_lines.specs.Ties.{IsSaid, BodySaid, CurrentLines, IsCovered, AreCovered}
@@ -62,72 +62,76 @@ module _ (c : Config) (lines : List Line) where
   ring_sends_each ring (node ∷ nodes) b s = appended (IsSaid c lines) (sends ring (Some node) b) (sends_each ring nodes b) (ring_sends ring (Some node) b s) (ring_sends_each ring nodes b s)
 
   module _ (ring : RingId) where
-    pub Stays-refl : (did : Did) → Stays c lines ring did did
-    Stays-refl did = record { learner = refl; told = λ t. t }
+    pub Stays-refl : (effects : Effects) → Stays c lines ring effects effects
+    Stays-refl effects = record { learner = refl; told = λ t. t }
 
-    pub Stays-trans : (a b d : Did) → Stays c lines ring a b → Stays c lines ring b d → Stays c lines ring a d
+    pub Stays-trans : (a b d : Effects) → Stays c lines ring a b → Stays c lines ring b d → Stays c lines ring a d
     Stays-trans a b d p q = record { learner = q.learner ∙ p.learner; told = λ t. q.told (p.told t) }
 
-    pub stays_frames : (did : Did) (frames : List Sent) → (DidTold c lines ring did → AllByRecursion (IsSaid c lines) frames) → Stays c lines ring did (with_frames frames did)
-    stays_frames did frames s = record {
+    pub stays_frames : (effects : Effects) (frames : List Sent) → (EffectsTold c lines ring effects → AllByRecursion (IsSaid c lines) frames) → Stays c lines ring effects (with_frames frames effects)
+    stays_frames effects frames s = record {
       learner = refl;
-      told = λ t. record { round = t.round; trim = t.trim; frames = appended (IsSaid c lines) did.frames frames t.frames (s t); plain = t.plain; changes = t.changes; epoch = t.epoch };
+      told = λ t. record { round = t.round; trim = t.trim; frames = appended (IsSaid c lines) effects.frames frames t.frames (s t); plain = t.plain; changes = t.changes; epoch = t.epoch };
     }
 
-    pub stays_line : (did : Did) (l : Line) → IsPlain c lines l → Stays c lines ring did (with_line l did)
-    stays_line did l plain = record {
+    pub stays_line : (effects : Effects) (l : Line) → IsPlain c lines l → Stays c lines ring effects (with_line l effects)
+    stays_line effects l plain = record {
       learner = refl;
-      told = λ t. record { round = t.round; trim = t.trim; frames = t.frames; plain = appended (IsPlain c lines) did.lines (l ∷ []) t.plain (plain, tt); changes = t.changes; epoch = t.epoch };
+      told = λ t. record { round = t.round; trim = t.trim; frames = t.frames; plain = appended (IsPlain c lines) effects.lines (l ∷ []) t.plain (plain, tt); changes = t.changes; epoch = t.epoch };
     }
 
-    pub stays_learned : (did : Did) (range : Decided) → Stays c lines ring did (with_learned range did)
-    stays_learned did range = record { learner = refl; told = λ t. record { round = t.round; trim = t.trim; frames = t.frames; plain = t.plain; changes = t.changes; epoch = t.epoch } }
+    pub stays_learned : (effects : Effects) (range : Decided) → Stays c lines ring effects (with_learned range effects)
+    stays_learned effects range = record { learner = refl; told = λ t. record { round = t.round; trim = t.trim; frames = t.frames; plain = t.plain; changes = t.changes; epoch = t.epoch } }
 
     -- the coordinator alone
-    pub stays_coordinator : (did : Did) (coordinator : Coordinator) → Stays c lines ring did (with_part (with_coordinator coordinator did.part) did)
-    stays_coordinator did coordinator = record { learner = refl; told = λ t. record { round = t.round; trim = t.trim; frames = t.frames; plain = t.plain; changes = t.changes; epoch = t.epoch } }
+    pub stays_coordinator : (effects : Effects) (coordinator : Coordinator) → Stays c lines ring effects (with_part (with_coordinator coordinator effects.part) effects)
+    stays_coordinator effects coordinator = record { learner = refl; told = λ t. record { round = t.round; trim = t.trim; frames = t.frames; plain = t.plain; changes = t.changes; epoch = t.epoch } }
 
     -- the rounds alone
-    pub stays_rounds : (did : Did) (rounds : Rounds) → CurrentLines c lines ring rounds.current → Stays c lines ring did (with_part (with_rounds rounds did.part) did)
-    stays_rounds did rounds r = record { learner = refl; told = λ t. record { round = r; trim = t.trim; frames = t.frames; plain = t.plain; changes = t.changes; epoch = t.epoch } }
+    pub stays_rounds : (effects : Effects) (rounds : Rounds) → CurrentLines c lines ring rounds.current → Stays c lines ring effects (with_part (with_rounds rounds effects.part) effects)
+    stays_rounds effects rounds r = record { learner = refl; told = λ t. record { round = r; trim = t.trim; frames = t.frames; plain = t.plain; changes = t.changes; epoch = t.epoch } }
 
 module _ (c : Config) (lines : List Line) (ring : Ring) where
-  pub stays_votes : (vote : Voted) (did : Did) → Stays c lines ring.id did (votes_for ring vote did)
-  stays_votes vote did =
-      by_test (Stays c lines ring.id did) (are_held vote did.part.kept.votes) did (with_change (changes.Vote ring.id vote) (with_kept (with_vote vote did.part.kept) did.part) did) (λ e. Stays-refl c lines ring.id did)
-      (record {
-        learner = refl;
-        told = λ t. record {
-          round = t.round;
-          trim = t.trim;
-          frames = t.frames;
-          plain = t.plain;
-          changes = λ s h. subst (λ (q : State). AreCovered c lines q) (sym (taken_one did.changes (changes.Vote ring.id vote) s))
-              (covered_with c lines ring.id (with_vote vote (ring_at (taken did.changes s) ring.id)) (taken did.changes s) (t.changes s h) (t.changes s h ring.id));
-          epoch = λ s. ap (λ (q : State). q.epoch) (taken_one did.changes (changes.Vote ring.id vote) s) ∙ t.epoch s;
-        };
-      })
+  pub stays_votes : (vote : Voted) (effects : Effects) → Stays c lines ring.id effects (votes_for ring vote effects)
+  stays_votes vote effects = record {
+    learner = refl;
+    told = λ t. record {
+      round = t.round;
+      trim = t.trim;
+      frames = t.frames;
+      plain = t.plain;
+      changes = λ s h. subst (λ (q : State). AreCovered c lines q) (sym (taken_one effects.changes (changes.Vote ring.id vote) s))
+          (covered_with c lines ring.id (with_vote vote (ring_at (taken effects.changes s) ring.id)) (taken effects.changes s) (t.changes s h) (t.changes s h ring.id));
+      epoch = λ s. ap (λ (q : State). q.epoch) (taken_one effects.changes (changes.Vote ring.id vote) s) ∙ t.epoch s;
+    };
+  }
 
-  pub stays_promises : (ballot : ℕ) (did : Did) → Stays c lines ring.id did (promises ring ballot did)
-  stays_promises ballot did =
-      by_test (Stays c lines ring.id did) (ballot == did.part.kept.promise) did (with_change (changes.Promise ring.id ballot) (promised_part ballot did.part) did) (λ e. Stays-refl c lines ring.id did)
-      (record {
-        learner = refl;
-        told = λ t. record {
-          round = t.round;
-          trim = t.trim;
-          frames = t.frames;
-          plain = t.plain;
-          changes = λ s h. subst (λ (q : State). AreCovered c lines q) (sym (taken_one did.changes (changes.Promise ring.id ballot) s))
-              (covered_with c lines ring.id (with_promise ballot (ring_at (taken did.changes s) ring.id)) (taken did.changes s) (t.changes s h) (t.changes s h ring.id));
-          epoch = λ s. ap (λ (q : State). q.epoch) (taken_one did.changes (changes.Promise ring.id ballot) s) ∙ t.epoch s;
-        };
-      })
+  pub stays_votes_anew : (vote : Voted) (effects : Effects) → Stays c lines ring.id effects (votes_anew ring vote effects)
+  stays_votes_anew vote effects =
+      by_test (Stays c lines ring.id effects) (are_held vote effects.part.kept.votes) effects (votes_for ring vote effects) (λ e. Stays-refl c lines ring.id effects) (stays_votes vote effects)
 
-  pub stays_trims : (trim : ℕ) (did : Did) → IsCovered c lines ring.id trim → Stays c lines ring.id did (trims_to ring trim did)
-  stays_trims trim did covered =
-      by_test (Stays c lines ring.id did) (nat_le trim did.part.kept.trim) did (with_change (changes.Trim ring.id trim) (without_finished (with_kept (with_trim trim did.part.kept) did.part)) did)
-      (λ e. Stays-refl c lines ring.id did)
+  pub stays_promises : (ballot : ℕ) (effects : Effects) → Stays c lines ring.id effects (promises ring ballot effects)
+  stays_promises ballot effects = record {
+    learner = refl;
+    told = λ t. record {
+      round = t.round;
+      trim = t.trim;
+      frames = t.frames;
+      plain = t.plain;
+      changes = λ s h. subst (λ (q : State). AreCovered c lines q) (sym (taken_one effects.changes (changes.Promise ring.id ballot) s))
+          (covered_with c lines ring.id (with_promise ballot (ring_at (taken effects.changes s) ring.id)) (taken effects.changes s) (t.changes s h) (t.changes s h ring.id));
+      epoch = λ s. ap (λ (q : State). q.epoch) (taken_one effects.changes (changes.Promise ring.id ballot) s) ∙ t.epoch s;
+    };
+  }
+
+  pub stays_promises_anew : (ballot : ℕ) (effects : Effects) → Stays c lines ring.id effects (promises_anew ring ballot effects)
+  stays_promises_anew ballot effects =
+      by_test (Stays c lines ring.id effects) (ballot == effects.part.kept.promise) effects (promises ring ballot effects) (λ e. Stays-refl c lines ring.id effects) (stays_promises ballot effects)
+
+  pub stays_trims : (trim : ℕ) (effects : Effects) → IsCovered c lines ring.id trim → Stays c lines ring.id effects (trims_to ring trim effects)
+  stays_trims trim effects covered =
+      by_test (Stays c lines ring.id effects) (nat_le trim effects.part.kept.trim) effects (with_change (changes.Trim ring.id trim) (without_finished (with_kept (with_trim trim effects.part.kept) effects.part)) effects)
+      (λ e. Stays-refl c lines ring.id effects)
       (record {
         learner = refl;
         told = λ t. record {
@@ -135,61 +139,61 @@ module _ (c : Config) (lines : List Line) (ring : Ring) where
           trim = covered;
           frames = t.frames;
           plain = t.plain;
-          changes = λ s h. subst (λ (q : State). AreCovered c lines q) (sym (taken_one did.changes (changes.Trim ring.id trim) s))
-              (covered_with c lines ring.id (with_trim trim (ring_at (taken did.changes s) ring.id)) (taken did.changes s) (t.changes s h) covered);
-          epoch = λ s. ap (λ (q : State). q.epoch) (taken_one did.changes (changes.Trim ring.id trim) s) ∙ t.epoch s;
+          changes = λ s h. subst (λ (q : State). AreCovered c lines q) (sym (taken_one effects.changes (changes.Trim ring.id trim) s))
+              (covered_with c lines ring.id (with_trim trim (ring_at (taken effects.changes s) ring.id)) (taken effects.changes s) (t.changes s h) covered);
+          epoch = λ s. ap (λ (q : State). q.epoch) (taken_one effects.changes (changes.Trim ring.id trim) s) ∙ t.epoch s;
         };
       })
 
-  pub stays_goes_on : (link : Link) (mask : ℕ) (vote : Voted) (did : Did) → Stays c lines ring.id did (goes_on ring link mask vote did)
-  stays_goes_on link mask vote did =
-      by_test (Stays c lines ring.id did) (nat_le (majority_of ring) (count_ones mask)) (decides ring link (decided_of vote) did)
-      (with_frames (sends ring (next_acceptor ring link) (Accept ring.id vote.ballot vote.lo vote.hi mask vote.value)) did)
-      (λ e. Stays-trans c lines ring.id did (with_frames (first_decide ring link (decided_of vote)) did) (decides ring link (decided_of vote) did)
-      (stays_frames c lines ring.id did (first_decide ring link (decided_of vote))
+  pub stays_decides_or_forwards : (link : Link) (mask : ℕ) (vote : Voted) (effects : Effects) → Stays c lines ring.id effects (decides_or_forwards ring link mask vote effects)
+  stays_decides_or_forwards link mask vote effects =
+      by_test (Stays c lines ring.id effects) (nat_le (majority_of ring) (count_ones mask)) (decides ring link (decided_of vote) effects)
+      (with_frames (sends ring (next_acceptor ring link) (Accept ring.id vote.ballot vote.lo vote.hi mask vote.value)) effects)
+      (λ e. Stays-trans c lines ring.id effects (with_frames (first_decide ring link (decided_of vote)) effects) (decides ring link (decided_of vote) effects)
+      (stays_frames c lines ring.id effects (first_decide ring link (decided_of vote))
       (λ t. by_test (AllByRecursion (IsSaid c lines)) (nat_le 2 (length ring.members))
       (sends ring (next_member ring link) (Decide ring.id vote.lo vote.hi (length ring.members - 2) vote.value)) []
       (λ q. ring_sends c lines ring (next_member ring link) (Decide ring.id vote.lo vote.hi (length ring.members - 2) vote.value) (λ node. tt)) tt))
-      (stays_learned c lines ring.id (with_frames (first_decide ring link (decided_of vote)) did) (decided_of vote)))
-      (stays_frames c lines ring.id did (sends ring (next_acceptor ring link) (Accept ring.id vote.ballot vote.lo vote.hi mask vote.value))
+      (stays_learned c lines ring.id (with_frames (first_decide ring link (decided_of vote)) effects) (decided_of vote)))
+      (stays_frames c lines ring.id effects (sends ring (next_acceptor ring link) (Accept ring.id vote.ballot vote.lo vote.hi mask vote.value))
       (λ t. ring_sends c lines ring (next_acceptor ring link) (Accept ring.id vote.ballot vote.lo vote.hi mask vote.value) (λ node. tt)))
 
-  pub stays_offers : (link : Link) (campaign : Campaign) (range : Decided) (taken : ℕ) (did : Did) → Stays c lines ring.id did (offers ring link campaign range taken did)
+  pub stays_offers : (link : Link) (campaign : Campaign) (range : Decided) (taken : ℕ) (effects : Effects) → Stays c lines ring.id effects (offers ring link campaign range taken effects)
   unfolding offers
-  stays_offers link campaign range taken did =
-      let now : Did = with_part (with_campaign (after_offer ring range taken campaign) did.part) did in
-      let voted : Did = votes_for ring (vote_of campaign.ballot range) now in
-      Stays-trans c lines ring.id did now (goes_on ring link (own_mask ring) (vote_of campaign.ballot range) voted)
-      (stays_coordinator c lines ring.id did (in_role (Active (after_offer ring range taken campaign)) did.part.coordinator))
-      (Stays-trans c lines ring.id now voted (goes_on ring link (own_mask ring) (vote_of campaign.ballot range) voted) (stays_votes (vote_of campaign.ballot range) now)
-      (stays_goes_on link (own_mask ring) (vote_of campaign.ballot range) voted))
+  stays_offers link campaign range taken effects =
+      let now : Effects = with_part (with_campaign (after_offer ring range taken campaign) effects.part) effects in
+      let voted : Effects = votes_for ring (vote_of campaign.ballot range) now in
+      Stays-trans c lines ring.id effects now (decides_or_forwards ring link (own_mask ring) (vote_of campaign.ballot range) voted)
+      (stays_coordinator c lines ring.id effects (in_role (Active (after_offer ring range taken campaign)) effects.part.coordinator))
+      (Stays-trans c lines ring.id now voted (decides_or_forwards ring link (own_mask ring) (vote_of campaign.ballot range) voted) (stays_votes (vote_of campaign.ballot range) now)
+      (stays_decides_or_forwards link (own_mask ring) (vote_of campaign.ballot range) voted))
 
-  TurnStays : Did → Turn → Type 0
-  TurnStays old (Stops did) = Stays c lines ring.id old did
-  TurnStays old (Proposes campaign range taken did) = Stays c lines ring.id old did
+  TurnStays : Effects → Turn → Type 0
+  TurnStays old (Stops effects) = Stays c lines ring.id old effects
+  TurnStays old (Proposes campaign range taken effects) = Stays c lines ring.id old effects
 
-  turn_stays : (did : Did) → TurnStays did (turn_of ring did)
+  turn_stays : (effects : Effects) → TurnStays effects (turn_of ring effects)
   unfolding TurnStays
-  turn_stays did = by_role did.part.coordinator.role
+  turn_stays effects = by_role effects.part.coordinator.role
     where
-      by_choice : (campaign : Campaign) (ch : Choice) → TurnStays did (turn_by did campaign ch)
-      by_choice campaign Rests = stays_coordinator c lines ring.id did (in_role (Active campaign) did.part.coordinator)
-      by_choice campaign (Offers range taken) = Stays-refl c lines ring.id did
+      by_choice : (campaign : Campaign) (ch : Choice) → TurnStays effects (turn_by effects campaign ch)
+      by_choice campaign Rests = stays_coordinator c lines ring.id effects (in_role (Active campaign) effects.part.coordinator)
+      by_choice campaign (Offers range taken) = Stays-refl c lines ring.id effects
 
-      by_role : (role : Role) → TurnStays did (turn_in ring did role)
-      by_role Idle = Stays-refl c lines ring.id did
-      by_role (Active campaign) = by_choice (advanced did.part campaign) (choice ring (advanced did.part campaign) did.part.learner.held)
+      by_role : (role : Role) → TurnStays effects (turn_in ring effects role)
+      by_role Idle = Stays-refl c lines ring.id effects
+      by_role (Active campaign) = by_choice (advanced effects.part campaign) (choice ring (advanced effects.part campaign) effects.part.learner.held)
 
-  proposing_stays : (n : ℕ) (link : Link) (old : Did) (turn : Turn) → TurnStays old turn → Stays c lines ring.id old (proposing n ring link turn)
+  proposing_stays : (n : ℕ) (link : Link) (old : Effects) (turn : Turn) → TurnStays old turn → Stays c lines ring.id old (proposing n ring link turn)
   unfolding TurnStays proposing
-  proposing_stays zero link old (Stops did) s = s
-  proposing_stays zero link old (Proposes campaign range taken did) s = s
-  proposing_stays (suc n) link old (Stops did) s = s
-  proposing_stays (suc n) link old (Proposes campaign range taken did) s =
-      let next : Did = offers ring link campaign range taken did in
-      let last : Did = proposing n ring link (turn_of ring next) in
-      Stays-trans c lines ring.id old did last s (Stays-trans c lines ring.id did next last (stays_offers link campaign range taken did) (proposing_stays n link next (turn_of ring next) (turn_stays next)))
+  proposing_stays zero link old (Stops effects) s = s
+  proposing_stays zero link old (Proposes campaign range taken effects) s = s
+  proposing_stays (suc n) link old (Stops effects) s = s
+  proposing_stays (suc n) link old (Proposes campaign range taken effects) s =
+      let next : Effects = offers ring link campaign range taken effects in
+      let last : Effects = proposing n ring link (turn_of ring next) in
+      Stays-trans c lines ring.id old effects last s (Stays-trans c lines ring.id effects next last (stays_offers link campaign range taken effects) (proposing_stays n link next (turn_of ring next) (turn_stays next)))
 
-  pub proposes_stays : (link : Link) (did : Did) → Stays c lines ring.id did (proposes_after ring link did)
+  pub proposes_stays : (link : Link) (effects : Effects) → Stays c lines ring.id effects (proposes_after ring link effects)
   unfolding proposes_after
-  proposes_stays link did = proposing_stays END link did (turn_of ring did) (turn_stays did)
+  proposes_stays link effects = proposing_stays END link effects (turn_of ring effects) (turn_stays effects)

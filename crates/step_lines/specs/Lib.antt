@@ -1,1 +1,1 @@
-pub mod Dids
+pub mod Effects

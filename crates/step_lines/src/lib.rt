@@ -9,7 +9,7 @@ ghost use Rattle.std.specs.Prelude.{◌≡◌, ◌+◌, ℕ, List, ◌∷◌};
 ghost use Rattle.std.specs.List.{AllByRecursion};
 ghost use Rattle.mrp_types.specs.declared.id.NodeId.{NodeId};
 ghost use Rattle.mrp_config.specs.Config.{Config};
-ghost use Rattle.checkpoint.specs.Checks.{Checks};
+ghost use Rattle.checkpoint.specs.Checkpoints.{Checkpoints};
 ghost use Rattle.vote_journal.specs.Journal.{Journal};
 ghost use Rattle.protocol.specs.Lines.{Line, Up};
 ghost use Rattle.protocol.specs.Node.{Event, View};
@@ -17,7 +17,7 @@ ghost use Rattle.protocol.specs.Opening.{opened, partition_of, parts_of};
 ghost use Rattle.protocol.specs.Step.{step};
 ghost use Rattle.faithful.specs.Scanners.{past};
 ghost use Rattle.recovery_lines.specs.Ties.{AreCovered, AreRight, IsFit, IsPlaced, KnownLines, PartTold, StepLines, ViewLines, rings_in};
-ghost use Rattle.step_lines.specs.Dids.{AllAgree, EventSaid, KeptFor, LeftTold};
+ghost use Rattle.step_lines.specs.Effects.{AllAgree, EventSaid, KeptFor, LeftTold};
 
 /// A step on an event that was said. Whether its work is done or stopped, the node and its rings stay, each trim that it keeps
 /// is covered by what was told before the step, and its newest checkpoint reaches all that it told. Where each of its learn lines
@@ -35,10 +35,10 @@ pub fn steps()
 /// An opening, in an epoch more than that of the state that its disk stands for: a replica begins its first attempt over its
 /// up line, and the same is so of what it leaves and prints.
 pub fn openings()
-    ensures left { (c : Config) → IsFit c → (lines : List Line) (id : NodeId) (journal : Journal) (checks : Checks) (epoch : ℕ) → journal.state.epoch ≡ epoch + 1
-        → KeptFor c lines id epoch checks.newest (partition_of c.partitions id) → AreCovered c (Up id (epoch + 1) ∷ lines) journal.state
-        → LeftTold c (Up id (epoch + 1) ∷ lines) id (rings_in (parts_of c id journal.state c.rings)) (opened c id journal checks) }
-    ensures right { (c : Config) → IsFit c → (lines : List Line) (id : NodeId) (journal : Journal) (checks : Checks) (epoch : ℕ) → journal.state.epoch ≡ epoch + 1
-        → KeptFor c lines id epoch checks.newest (partition_of c.partitions id) → AreRight c lines → KnownLines c lines → AreCovered c (Up id (epoch + 1) ∷ lines) journal.state
-        → (new : List Line) × StepLines c (Up id (epoch + 1) ∷ lines) new id (opened c id journal checks) }
+    ensures left { (c : Config) → IsFit c → (lines : List Line) (id : NodeId) (journal : Journal) (checkpoints : Checkpoints) (epoch : ℕ) → journal.state.epoch ≡ epoch + 1
+        → KeptFor c lines id epoch checkpoints.newest (partition_of c.partitions id) → AreCovered c (Up id (epoch + 1) ∷ lines) journal.state
+        → LeftTold c (Up id (epoch + 1) ∷ lines) id (rings_in (parts_of c id journal.state c.rings)) (opened c id journal checkpoints) }
+    ensures right { (c : Config) → IsFit c → (lines : List Line) (id : NodeId) (journal : Journal) (checkpoints : Checkpoints) (epoch : ℕ) → journal.state.epoch ≡ epoch + 1
+        → KeptFor c lines id epoch checkpoints.newest (partition_of c.partitions id) → AreRight c lines → KnownLines c lines → AreCovered c (Up id (epoch + 1) ∷ lines) journal.state
+        → (new : List Line) × StepLines c (Up id (epoch + 1) ∷ lines) new id (opened c id journal checkpoints) }
 {}

@@ -11,12 +11,14 @@ use Rattle.mrp_types.specs.declared.value.Value.TheVariants.{Skip, Batch}
 use Rattle.mrp_types.specs.declared.value.Entry.{Entry}
 use Rattle.mrp_types.specs.declared.voted.Decided.{Decided}
 use Rattle.command_codec.specs.Parts.{IsSpelled}
-use Rattle.range_map.specs.Entries.{value_at}
+use Rattle.range_map.specs.Entries.{value_at, IsIncreasingFrom}
+use Rattle.vote_state.specs.Valid.{IsVoted}
 use Rattle.vote_state.specs.declared.cast.Cast.{Cast}
 use Rattle.protocol.specs.Parts.{Ring, Campaign}
 use Rattle.protocol.specs.Rings.{majority_of}
 use Rattle.protocol.specs.Ballots.{reached_by, covered_to, leads_now, reported}
 use Rattle.protocol.specs.Proposing.{reported_to, due_by, due_at, first_where, is_any, is_batch, gaps_to, run_end, fresh_entries, single, fresh_choice, Rests, Offers, choice_of, has_room, choice, vote_of}
+use Rattle.protocol.proofs.OfferLemmas.{choice_offer}
 use Rattle.step_valid.specs.Valid.{MayVote, CampaignValid}
 use Rattle.step_valid.proofs.Batches.{all_at, fresh_batch}
 
@@ -72,9 +74,9 @@ some_range e = cc
 single_may : (campaign : Campaign) → CampaignValid campaign → (batch : List ℕ) → IsSpelled (Batch batch) → campaign.next < END → MayVote (vote_of campaign.ballot (single campaign.next batch))
 single_may campaign c batch is under = λ lt. record { ballot = c.ballot; range = lt; end = omega arith; alone = λ e. omega arith; value = is }
 
-pub choice_may : (ring : Ring) (campaign : Campaign) (held : List (ℕ × Value)) → CampaignValid campaign → (range : Decided) (taken : ℕ) → choice ring campaign held ≡ Offers range taken
+spelled_may : (ring : Ring) (campaign : Campaign) (held : List (ℕ × Value)) → CampaignValid campaign → (range : Decided) (taken : ℕ) → choice ring campaign held ≡ Offers range taken
     → MayVote (vote_of campaign.ballot range)
-choice_may ring campaign held c range taken = go (has_room ring campaign && nat_lt campaign.next (covered_to ring campaign.covered)) refl
+spelled_may ring campaign held c range taken = go (has_room ring campaign && nat_lt campaign.next (covered_to ring campaign.covered)) refl
   where
     reported_there : (cast : Cast) → value_at campaign.next campaign.reports ≡ Some cast → IsSpelled cast.value
     reported_there cast e = (all_at Spelled campaign.reports campaign.next cast c.reports e).1
@@ -107,3 +109,8 @@ choice_may ring campaign held c range taken = go (has_room ring campaign && nat_
         let lt : campaign.next < covered_to ring campaign.covered = grind (arith, nat_tests) in
         let within = covered_within ring campaign.covered c.covered in
         by_due (omega arith) (due_at ring campaign campaign.next) refl e
+
+pub choice_may : (ring : Ring) (campaign : Campaign) (held : List (ℕ × Value)) → CampaignValid campaign → IsIncreasingFrom 0 held → value_at campaign.next held ≡ None
+    → (range : Decided) (taken : ℕ) → choice ring campaign held ≡ Offers range taken → IsVoted (vote_of campaign.ballot range)
+choice_may ring campaign held c ordered unlearned range taken is =
+    spelled_may ring campaign held c range taken is (choice_offer ring campaign held c.ordered ordered unlearned range taken is).some

@@ -1,5 +1,5 @@
 -- A step as a whole, and an opening.
-use Rattle.std.proofs.Common.{◌≡◌, inl, inr, Bool, true, false, List, [], ◌∷◌, map, Option, Some, None, refl, sym, subst}
+use Rattle.std.proofs.Common.{◌≡◌, inl, inr, Bool, true, false, List, [], ◌∷◌, map, Option, Some, None, refl, sym, subst, arith}
 use Rattle.std.specs.Prelude.{◌+◌, ◌%◌, ◌==◌, if◌then◌else◌}
 use Rattle.std.specs.List.{AllByRecursion}
 use Rattle.mrp_types.specs.declared.id.NodeId.{NodeId}
@@ -12,7 +12,7 @@ use Rattle.vote_state.specs.State.{State, IsState}
 use Rattle.vote_state.specs.Valid.{IsChange}
 use Rattle.vote_state.proofs.StateLemmas.{filter_all, append_all, each_at, formed_taken}
 use Rattle.vote_journal.specs.Journal.{Journal, recorded}
-use Rattle.checkpoint.specs.Checks.{Checks}
+use Rattle.checkpoint.specs.Checkpoints.{Checkpoints}
 use Rattle.plain_model.specs.StateBytes.{state_bytes}
 use Rattle.ring_link.specs.Silence.{with_tick}
 use Rattle.beside_rings.specs.Beside.{Untouched, changes_in}
@@ -20,14 +20,15 @@ use Rattle.beside_rings.proofs.Following.{Untouched-refl}
 use Rattle.beside_rings.proofs.Recovered.{untouched_begins}
 use Rattle.protocol.specs.Rings.{is_member, ring_of}
 use Rattle.protocol.specs.Coordinator.{leads}
-use Rattle.protocol.specs.Node.{Acting, View, RingPart, Service, Stage, Recovering, Ready, Event, Ticks, Takes, Leads, work_of, begun_with, finished, part_at}
+use Rattle.protocol.specs.Node.{StepSoFar, View, RingPart, Service, Stage, Recovering, Ready, Event, Ticks, Takes, Leads, work_of, begun_with, finished, part_at}
 use Rattle.protocol.specs.Bases.{rebased, rebases}
-use Rattle.protocol.specs.Learning.{does}
-use Rattle.protocol.specs.Step.{at_acceptor, takes_from, step}
+use Rattle.protocol.specs.Learning.{applies_effects}
+use Rattle.protocol.specs.Step.{at_acceptor, handles_from, step}
 use Rattle.protocol.specs.Tick.{saves, is_due_to_save, saves_stage, saves_first, is_due_to_compact, compacts, beats, or_compacts, ticks}
 use Rattle.protocol.specs.Opening.{partition_of, part_of_ring, parts_of, view_of, begins_first, opened}
+use Rattle.range_map.proofs.EntryLemmas.{increasing_entries_from}
 use Rattle.step_valid.specs.Valid.{SentValid, IsLearned, MemberValid, ViewValid, AreNumbered, EventValid, StepValid}
-use Rattle.step_valid.proofs.Going.{ActingValid, untouched_valid}
+use Rattle.step_valid.proofs.Going.{SoFarValid, untouched_valid}
 use Rattle.step_valid.proofs.Dispatch.{from_goes, lead_goes, beats_go}
 
 module _ (config : Config) where
@@ -37,7 +38,7 @@ module _ (config : Config) where
   rebased_valid id service [] all = tt
   rebased_valid id service (p ∷ parts) all =
       let v = all.0.part in (
-        record { of_ring = all.0.of_ring; part = record { kept = v.kept; role = v.role; round = v.round; held = filter_all IsLearned _ p.part.learner.held v.held } },
+        record { of_ring = all.0.of_ring; part = record { kept = v.kept; role = v.role; round = v.round; held = filter_all IsLearned _ p.part.learner.held v.held; ordered = increasing_entries_from 0 _ 0 p.part.learner.held v.ordered (inl (omega arith)) } },
         rebased_valid id service parts all.1,
       )
 
@@ -49,7 +50,7 @@ module _ (config : Config) where
   in_work [] all = tt
   in_work (c ∷ cs) all = all
 
-  finished_valid : (id : NodeId) (a : Acting) → ActingValid config id a → StepValid config id (finished a)
+  finished_valid : (id : NodeId) (a : StepSoFar) → SoFarValid config id a → StepValid config id (finished a)
   finished_valid id a v = record {
     same_node = v.own;
     view = record {
@@ -61,7 +62,7 @@ module _ (config : Config) where
     lines = v.lines;
   }
 
-  ended_valid : (id : NodeId) (a : Acting) → ActingValid config id a → StepValid config id (finished (rebases a))
+  ended_valid : (id : NodeId) (a : StepSoFar) → SoFarValid config id a → StepValid config id (finished (rebases a))
   ended_valid id a v =
       finished_valid id (rebases a)
       (record {
@@ -77,7 +78,7 @@ module _ (config : Config) where
   -- ---- a step
 
   module _ (numbered : AreNumbered config) (view : View) (v : ViewValid config view) where
-    begun : (other : View) → other.id ≡ view.id → other.journal ≡ view.journal → other.parts ≡ view.parts → ActingValid config view.id (begun_with other)
+    begun : (other : View) → other.id ≡ view.id → other.journal ≡ view.journal → other.parts ≡ view.parts → SoFarValid config view.id (begun_with other)
     begun other own journal parts = record {
       own = own;
       state = subst (λ (j : Journal). IsState j.state) (sym journal) v.state;
@@ -121,10 +122,10 @@ module _ (config : Config) where
     unfolding step
     step_valid Ticks is = tick_valid
     step_valid (Takes frame) is =
-        ended_valid view.id (takes_from config frame.from frame.body (begun_with view))
+        ended_valid view.id (handles_from config frame.from frame.body (begun_with view))
         (from_goes config view.id numbered frame.from frame.body is (begun_with view) (begun view refl refl refl))
     step_valid (Leads fr) is =
-        ended_valid view.id (at_acceptor (λ r part b. does config r (leads r b.view.link part) b) (part_at view fr) (begun_with view))
+        ended_valid view.id (at_acceptor (λ r part b. applies_effects config r (leads r b.view.link part) b) (part_at view fr) (begun_with view))
         (lead_goes config view.id numbered fr (begun_with view) (begun view refl refl refl))
 
   -- ---- an opening
@@ -140,19 +141,19 @@ module _ (config : Config) where
       go true e rest = (
         record {
           of_ring = record { table = t; listed = listed t (inl refl); same = refl; member = e };
-          part = record { kept = each_at state.rings t.id.0 s.each; role = tt; round = tt; held = tt };
+          part = record { kept = each_at state.rings t.id.0 s.each; role = tt; round = tt; held = tt; ordered = tt };
         },
         rest,
       )
 
-  pub opened_valid : (id : NodeId) (journal : Journal) (checks : Checks) → IsState journal.state → StepValid config id (opened config id journal checks)
+  pub opened_valid : (id : NodeId) (journal : Journal) (checkpoints : Checkpoints) → IsState journal.state → StepValid config id (opened config id journal checkpoints)
   unfolding opened
-  opened_valid id journal checks s =
-      let first : Acting = begun_with (view_of config id journal checks) in
+  opened_valid id journal checkpoints s =
+      let first : StepSoFar = begun_with (view_of config id journal checkpoints) in
       finished_valid id (begins_first config (partition_of config.partitions id) first)
       (untouched_valid config id first (begins_first config (partition_of config.partitions id) first) (begins (partition_of config.partitions id) first)
       (record { own = refl; state = s; parts = opened_parts id journal.state s config.rings (λ t there. there); changes = tt; frames = tt; replies = tt; lines = tt }))
     where
-      begins : (o : Option PartitionTable) (a : Acting) → Untouched a (begins_first config o a)
+      begins : (o : Option PartitionTable) (a : StepSoFar) → Untouched a (begins_first config o a)
       begins None a = Untouched-refl a
       begins (Some partition) a = untouched_begins config (record { partition = partition; attempts = 0; stage = Recovering (record { number = 0; ticks = 0; answers = []; choice = None }) }) a

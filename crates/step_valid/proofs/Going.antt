@@ -2,6 +2,7 @@
 use Rattle.std.proofs.Common.{◌≡◌, ℕ, zero, suc, ◌^◌, Bool, true, false, List, [], ◌∷◌, Option, Some, None, refl, sym, ◌∙◌, subst}
 use Rattle.std.specs.Prelude.{◌==◌, if◌then◌else◌}
 use Rattle.std.specs.List.{AllByRecursion}
+use Rattle.range_map.specs.Entries.{IsIncreasingFrom}
 use Rattle.mrp_types.specs.declared.id.NodeId.{NodeId}
 use Rattle.mrp_types.specs.declared.id.RingId.{RingId}
 use Rattle.mrp_types.specs.declared.voted.Decided.{Decided}
@@ -17,18 +18,18 @@ use Rattle.beside_rings.specs.Beside.{IsQuiet, IsQuietSent, IsNoLearn, SameBut, 
 use Rattle.beside_rings.proofs.Following.{mapped, Follows-all}
 use Rattle.beside_rings.proofs.Merge.{merges_untouched}
 use Rattle.protocol.specs.Lines.{Line, Learn}
-use Rattle.protocol.specs.Parts.{Ring, Coordinator, Rounds, Part, Did}
-use Rattle.protocol.specs.Doing.{nothing_done}
+use Rattle.protocol.specs.Parts.{Ring, Coordinator, Rounds, Part, Effects}
+use Rattle.protocol.specs.Effects.{no_effects}
 use Rattle.protocol.specs.Learner.{learns}
 use Rattle.protocol.specs.Proposing.{proposes}
-use Rattle.protocol.specs.Node.{Acting, RingPart, part_in, part_at, with_part_in, with_part, prints}
+use Rattle.protocol.specs.Node.{StepSoFar, RingPart, part_in, part_at, with_part_in, with_part, prints}
 use Rattle.protocol.specs.Merging.{merges}
-use Rattle.protocol.specs.Learning.{with_did, Queued, queued, proposes_then, by_news, learns_one, then_learns, learns_up_to, does}
-use Rattle.step_valid.specs.Valid.{MayLearn, IsLearned, BodyValid, SentValid, RoleValid, RoundValid, PartValid, DidValid, IsMemberOf, MemberValid, LearnValid, LineValid, AreNumbered}
+use Rattle.protocol.specs.Learning.{with_effects, Queued, queued, proposes_then, by_news, learns_one, then_learns, learns_up_to, applies_effects}
+use Rattle.step_valid.specs.Valid.{MayLearn, IsLearned, BodyValid, SentValid, RoleValid, RoundValid, PartValid, EffectsValid, IsMemberOf, MemberValid, LearnValid, LineValid, AreNumbered}
 use Rattle.step_valid.proofs.Words.{valid_none, valid_proposes}
 use Rattle.step_valid.proofs.Learned.{learns_valid, news_some}
 
-pub record ActingValid (config : Config) (id : NodeId) (a : Acting) : Type 0 where
+pub record SoFarValid (config : Config) (id : NodeId) (a : StepSoFar) : Type 0 where
   pub own : a.view.id ≡ id
   pub state : IsState a.view.journal.state
   pub parts : AllByRecursion (MemberValid config id) a.view.parts
@@ -64,6 +65,7 @@ same_part config id q p s v = record {
     role = subst (λ (c : Coordinator). RoleValid c.role) (sym s.coordinator) v.part.role;
     round = subst (λ (r : Rounds). RoundValid r.current) (sym s.rounds) v.part.round;
     held = subst (λ l. AllByRecursion IsLearned l) (sym s.held) v.part.held;
+    ordered = subst (λ l. IsIncreasingFrom 0 l) (sym s.held) v.part.ordered;
   };
 }
 
@@ -73,7 +75,7 @@ same_parts config id [] (p ∷ ps) s v = absurd s
 same_parts config id (q ∷ qs) [] s v = tt
 same_parts config id (q ∷ qs) (p ∷ ps) s v = (same_part config id q p s.0 v.0, same_parts config id qs ps s.1 v.1)
 
-pub untouched_valid : (config : Config) (id : NodeId) (a b : Acting) → Untouched a b → ActingValid config id a → ActingValid config id b
+pub untouched_valid : (config : Config) (id : NodeId) (a b : StepSoFar) → Untouched a b → SoFarValid config id a → SoFarValid config id b
 untouched_valid config id a b u v = record {
   own = u.id ∙ v.own;
   state = subst (λ (j : Journal). IsState j.state) (sym u.journal) v.state;
@@ -108,49 +110,49 @@ pub member_numbered : (config : Config) (id : NodeId) (ring : Ring) → AreNumbe
 member_numbered config id ring numbered m = subst (λ (r : Ring). IsRing r.id) (sym m.same) (numbered m.table m.listed)
 
 module _ (config : Config) (id : NodeId) (numbered : AreNumbered config) where
-  abbrev pub Goes : Acting → Type 0
-  Goes a = ActingValid config id a
+  abbrev pub Goes : StepSoFar → Type 0
+  Goes a = SoFarValid config id a
 
-  with_did_valid : (ring : Ring) (did : Did) (a : Acting) → DidValid did → Goes a → Goes (with_did ring did a)
-  with_did_valid ring did a d v = record {
+  with_effects_valid : (ring : Ring) (effects : Effects) (a : StepSoFar) → EffectsValid effects → Goes a → Goes (with_effects ring effects a)
+  with_effects_valid ring effects a d v = record {
     own = v.own;
     state = v.state;
-    parts = put config id ring.id did.part a.view.parts d.part v.parts;
-    changes = append_all IsChange a.changes did.changes v.changes d.changes;
-    frames = append_all SentValid a.frames did.frames v.frames d.frames;
+    parts = put config id ring.id effects.part a.view.parts d.part v.parts;
+    changes = append_all IsChange a.changes effects.changes v.changes d.changes;
+    frames = append_all SentValid a.frames effects.frames v.frames d.frames;
     replies = v.replies;
-    lines = append_all (LineValid config id) a.lines did.lines v.lines (mapped IsNoLearn (LineValid config id) (quiet_line config id) did.lines d.lines);
+    lines = append_all (LineValid config id) a.lines effects.lines v.lines (mapped IsNoLearn (LineValid config id) (quiet_line config id) effects.lines d.lines);
   }
 
   -- ---- learning, range by range
 
   record QueueValid (q : Queued) : Type 0 where
-    acting : ActingValid config id q.acting
+    so_far : SoFarValid config id q.so_far
     ranges : AllByRecursion MayLearn q.ranges
 
   module _ (ring : Ring) (m : IsMemberOf config id ring) where
     number : IsRing ring.id
     number = member_numbered config id ring numbered m
 
-    queued_valid : (later : List Decided) (did : Did) (a : Acting) → AllByRecursion MayLearn later → DidValid did → Goes a → QueueValid (queued ring later did a)
-    queued_valid later did a all d v = record { acting = with_did_valid ring did a d v; ranges = append_all MayLearn later did.learned all d.learned }
+    queued_valid : (later : List Decided) (effects : Effects) (a : StepSoFar) → AllByRecursion MayLearn later → EffectsValid effects → Goes a → QueueValid (queued ring later effects a)
+    queued_valid later effects a all d v = record { so_far = with_effects_valid ring effects a d v; ranges = append_all MayLearn later effects.learned all d.learned }
 
-    proposes_valid : (later : List Decided) (o : Option RingPart) (a : Acting) → part_at a.view ring.id ≡ o → AllByRecursion MayLearn later → Goes a → QueueValid (proposes_then ring later o a)
-    proposes_valid later None a e all v = record { acting = v; ranges = all }
+    proposes_valid : (later : List Decided) (o : Option RingPart) (a : StepSoFar) → part_at a.view ring.id ≡ o → AllByRecursion MayLearn later → Goes a → QueueValid (proposes_then ring later o a)
+    proposes_valid later None a e all v = record { so_far = v; ranges = all }
     proposes_valid later (Some p) a e all v =
         let there : MemberValid config id p = found (MemberValid config id) a.view.parts ring.id p v.parts e in
         queued_valid later (proposes ring a.view.link p.part) a all
-        (valid_proposes ring number (nothing_done p.part) a.view.link (valid_none ring number p.part there.part)) v
+        (valid_proposes ring number (no_effects p.part) a.view.link (valid_none ring number p.part there.part)) v
 
-    one_valid : (range : Decided) (later : List Decided) (o : Option RingPart) (a : Acting) → part_at a.view ring.id ≡ o → MayLearn range → AllByRecursion MayLearn later → Goes a
+    one_valid : (range : Decided) (later : List Decided) (o : Option RingPart) (a : StepSoFar) → part_at a.view ring.id ≡ o → MayLearn range → AllByRecursion MayLearn later → Goes a
         → QueueValid (learns_one config ring range later o a)
-    one_valid range later None a e may all v = record { acting = v; ranges = all }
+    one_valid range later None a e may all v = record { so_far = v; ranges = all }
     one_valid range later (Some p) a e may all v = go (learns ring p.part range).news refl
       where
         there : MemberValid config id p
         there = found (MemberValid config id) a.view.parts ring.id p v.parts e
 
-        now : ActingValid config id (with_part ring (learns ring p.part range).part a)
+        now : SoFarValid config id (with_part ring (learns ring p.part range).part a)
         now = record {
           own = v.own;
           state = v.state;
@@ -162,14 +164,14 @@ module _ (config : Config) (id : NodeId) (numbered : AreNumbered config) where
         }
 
         go : (b : Bool) → (learns ring p.part range).news ≡ b → QueueValid (by_news config ring range later b (with_part ring (learns ring p.part range).part a))
-        go false news = record { acting = now; ranges = all }
+        go false news = record { so_far = now; ranges = all }
         go true news =
             let lt = news_some ring p.part range news in
-            let taken : Acting = with_part ring (learns ring p.part range).part a in
-            let told : Acting = prints (Learn a.view.id ring.id range.lo range.hi range.value ∷ []) taken in
+            let taken : StepSoFar = with_part ring (learns ring p.part range).part a in
+            let told : StepSoFar = prints (Learn a.view.id ring.id range.lo range.hi range.value ∷ []) taken in
             let line : LearnValid config id ring.id (record { lo = range.lo; hi = range.hi; value = range.value }) =
             (let d = may lt in record { ring = ring; of_ring = m; named = refl; some = lt; decided = record { end = d.end; alone = d.alone; value = d.value } }) in
-            let printed : ActingValid config id told = record {
+            let printed : SoFarValid config id told = record {
               own = now.own;
               state = now.state;
               parts = now.parts;
@@ -181,16 +183,16 @@ module _ (config : Config) (id : NodeId) (numbered : AreNumbered config) where
             proposes_valid later (part_at (merges config told).view ring.id) (merges config told) refl all (untouched_valid config id told (merges config told) (merges_untouched config told) printed)
 
     learns_up : (most : ℕ) (q : Queued) → QueueValid q → Goes (learns_up_to most config ring q)
-    learns_up zero q v = v.acting
+    learns_up zero q v = v.so_far
     learns_up (suc most) q v = go q.ranges v.ranges (λ r w. learns_up most r w)
       where
         go : (ranges : List Decided) → AllByRecursion MayLearn ranges → ((r : Queued) → QueueValid r → Goes (learns_up_to most config ring r))
             → Goes (then_learns (learns_up_to most config ring) config ring q ranges)
-        go [] all rest = v.acting
+        go [] all rest = v.so_far
         go (range ∷ later) all rest =
-            rest (learns_one config ring range later (part_at q.acting.view ring.id) q.acting)
-            (one_valid range later (part_at q.acting.view ring.id) q.acting refl all.0 all.1 v.acting)
+            rest (learns_one config ring range later (part_at q.so_far.view ring.id) q.so_far)
+            (one_valid range later (part_at q.so_far.view ring.id) q.so_far refl all.0 all.1 v.so_far)
 
-    pub does_valid : (did : Did) (a : Acting) → DidValid did → Goes a → Goes (does config ring did a)
-    unfolding does
-    does_valid did a d v = learns_up (2 ^ 44) (queued ring [] did a) (queued_valid [] did a tt d v)
+    pub applies_effects_valid : (effects : Effects) (a : StepSoFar) → EffectsValid effects → Goes a → Goes (applies_effects config ring effects a)
+    unfolding applies_effects
+    applies_effects_valid effects a d v = learns_up (2 ^ 44) (queued ring [] effects a) (queued_valid [] effects a tt d v)

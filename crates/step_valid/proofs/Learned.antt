@@ -9,7 +9,8 @@ use Rattle.plain_model.specs.Fold.{entries_of_value}
 use Rattle.vote_state.specs.Valid.{IsRing}
 use Rattle.vote_state.proofs.StateLemmas.{filter_all}
 use Rattle.protocol.specs.Parts.{Ring, Pending, Role, Idle, Active, Part}
-use Rattle.protocol.specs.Learner.{is_news, are_all_held, entries_within, with_range_learned, role_without, learns_news, learns}
+use Rattle.protocol.proofs.EntryLemmas.{meets}
+use Rattle.protocol.specs.Learner.{first_of, is_news, are_all_held, entries_within, with_range_learned, role_without, learns_news, learns}
 use Rattle.step_valid.specs.Valid.{MayLearn, RoleValid, PartValid}
 use Rattle.step_valid.proofs.Listed.{learned_met}
 use Rattle.step_valid.proofs.Words.{unfinished_valid}
@@ -19,6 +20,7 @@ without_valid entries Idle r = tt
 without_valid entries (Active campaign) r = record {
   ballot = r.ballot;
   reports = r.reports;
+  ordered = r.ordered;
   pending = filter_all (λ (p : Pending). IsEntry p.entry) _ campaign.pending r.pending;
   outstanding = r.outstanding;
   covered = r.covered;
@@ -36,6 +38,7 @@ learns_valid ring numbered part range may p = go (is_news range part.learner)
           (without_valid (entries_of_value range.value) part.coordinator.role p.role);
       round = p.round;
       held = learned_met range (max range.lo part.learner.base) part.learner.held (omega arith) may p.held;
+      ordered = (meets first_of range.value (max range.lo part.learner.base) range.hi part.learner.held p.ordered).in_order;
     }
 
 -- a range of which something is news isn't empty

@@ -10,6 +10,7 @@ use Rattle.mrp_types.specs.declared.voted.Decided.{Decided}
 use Rattle.mrp_types.specs.Entries.{IsEntry}
 use Rattle.mrp_types.specs.Values.{is_skip}
 use Rattle.command_codec.specs.Parts.{IsSpelled}
+use Rattle.range_map.specs.Entries.{IsIncreasingFrom}
 use Rattle.mrp_config.specs.Config.{Config}
 use Rattle.mrp_config.specs.declared.tables.RingTable.{RingTable}
 use Rattle.quorums.specs.Groups.{Has}
@@ -21,7 +22,7 @@ use Rattle.frames.specs.declared.body.Body.TheVariants as body
 use Rattle.frames.specs.declared.sent.Sent.{Sent}
 use Rattle.beside_rings.specs.Beside.{IsNoLearn, changes_in}
 use Rattle.protocol.specs.Lines.{Line, Learn}
-use Rattle.protocol.specs.Parts.{Ring, Pending, Campaign, Role, Idle, Active, Round, Part, Did}
+use Rattle.protocol.specs.Parts.{Ring, Pending, Campaign, Role, Idle, Active, Round, Part, Effects}
 use Rattle.protocol.specs.Rings.{is_member, ring_of}
 use Rattle.protocol.specs.Proposing.{vote_of}
 use Rattle.protocol.specs.Node.{RingPart, View, Event, Takes, Stepped}
@@ -67,6 +68,7 @@ SentValid sent = BodyValid sent.frame.body
 pub record CampaignValid (campaign : Campaign) : Type 0 where
   pub ballot : IsBallot campaign.ballot
   pub reports : AllByRecursion (λ (e : ℕ × Cast). IsSpelled e.1.value) campaign.reports
+  pub ordered : IsIncreasingFrom 0 campaign.reports
   pub pending : AllByRecursion (λ (p : Pending). IsEntry p.entry) campaign.pending
   pub outstanding : AllByRecursion (λ (range : Decided). MayVote (vote_of campaign.ballot range)) campaign.outstanding
   pub covered : AllByRecursion (λ c. c ≤ END) campaign.covered
@@ -84,15 +86,16 @@ pub record PartValid (part : Part) : Type 0 where
   pub role : RoleValid part.coordinator.role
   pub round : RoundValid part.rounds.current
   pub held : AllByRecursion IsLearned part.learner.held
+  pub ordered : IsIncreasingFrom 0 part.learner.held
 
 -- what a rule of a ring makes
-pub record DidValid (did : Did) : Type 0 where
-  pub part : PartValid did.part
-  pub changes : AllByRecursion IsChange did.changes
-  pub frames : AllByRecursion SentValid did.frames
-  pub learned : AllByRecursion MayLearn did.learned
+pub record EffectsValid (effects : Effects) : Type 0 where
+  pub part : PartValid effects.part
+  pub changes : AllByRecursion IsChange effects.changes
+  pub frames : AllByRecursion SentValid effects.frames
+  pub learned : AllByRecursion MayLearn effects.learned
   -- what is learned is printed later
-  pub lines : AllByRecursion IsNoLearn did.lines
+  pub lines : AllByRecursion IsNoLearn effects.lines
 
 -- ---- a node
 
@@ -134,9 +137,9 @@ abbrev pub EventValid : Event → Type 0
 EventValid (Takes frame) = BodyValid frame.body
 EventValid other = Unit {0}
 
-pub record StepValid (config : Config) (id : NodeId) (did : Stepped) : Type 0 where
-  pub same_node : did.view.id ≡ id
-  pub view : ViewValid config did.view
-  pub changes : AllByRecursion IsChange (changes_in did.work)
-  pub frames : AllByRecursion SentValid did.frames
-  pub lines : AllByRecursion (LineValid config id) did.lines
+pub record StepValid (config : Config) (id : NodeId) (effects : Stepped) : Type 0 where
+  pub same_node : effects.view.id ≡ id
+  pub view : ViewValid config effects.view
+  pub changes : AllByRecursion IsChange (changes_in effects.work)
+  pub frames : AllByRecursion SentValid effects.frames
+  pub lines : AllByRecursion (LineValid config id) effects.lines

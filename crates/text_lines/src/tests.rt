@@ -127,7 +127,7 @@ fn words_are_put_after_a_space(rt: HostRuntime) -> Result<(), Fail> {
     let alloc = rt.alloc();
     let mut out = Octets::from_slice(alloc, b"x")?;
     put_word(&mut out, b"ab")?;
-    put_number(alloc, &mut out, 100)?;
+    put_number(&mut out, 100)?;
     put_hex(alloc, &mut out, &[10, 255])?;
     put_bytes(alloc, &mut out, &[])?;
     put_bytes(alloc, &mut out, &[1])?;

@@ -5,6 +5,7 @@ ghost use Rattle.std.specs.Fmt.{decimal};
 ghost use Rattle.hex.specs.Hex.{encode_lower};
 ghost use Rattle.text_lines.specs.Text.{spaced, hex_text};
 
+use itoa::Buffer;
 use mrp_types::{Memory, Octets};
 use std::alloc::Global;
 
@@ -16,11 +17,20 @@ pub fn put_word(out: &mut Octets, word: &[u8]) -> Result<(), Memory>
     out.extend(word)
 }
 
+/// Adds a number in decimal; without memory nothing is added.
+pub fn put_decimal(out: &mut Octets, number: u64) -> Result<(), Memory>
+    ensures { OnOk result (out.new ≡ out.old ++ decimal number) }
+{
+    let mut buffer = Buffer::new();
+    out.extend(buffer.format(number).as_bytes())
+}
+
 /// Adds a space and a number in decimal. After a refusal nothing is said of what `out` holds.
-pub fn put_number(alloc: Global, out: &mut Octets, number: u64) -> Result<(), Memory>
+pub fn put_number(out: &mut Octets, number: u64) -> Result<(), Memory>
     ensures { OnOk result (out.new ≡ out.old ++ spaced (decimal number)) }
 {
-    put_word(out, number.to_string(alloc)?.as_bytes())
+    out.push(b' ')?;
+    put_decimal(out, number)
 }
 
 /// Adds a space and bytes in lower-case hexadecimal. After a refusal nothing is said of what `out` holds.

@@ -10,7 +10,7 @@ ghost use Rattle.transcript.specs.Spelling.{line_bytes, line_words, value_text, 
 use crate::{Cause, Instances, Line, ShownFrame, ShownState};
 use mrp_types::{ClientId, Memory, NodeId, Octets, Party, RingId, Value};
 use std::alloc::Global;
-use text_lines::{put_hex, put_number, put_word};
+use text_lines::{put_decimal, put_hex, put_number, put_word};
 
 /// The one spelling of a line.
 pub fn write_line(alloc: Global, line: &Line) -> Result<Octets, Memory>
@@ -42,7 +42,6 @@ fn put_words(alloc: Global, out: &mut Octets, line: &Line) -> Result<(), Memory>
             value,
         } => {
             put_head(
-                alloc,
                 out,
                 b"learn",
                 &[u64::from(node.0), u64::from(ring.0), *lo, *hi],
@@ -50,7 +49,6 @@ fn put_words(alloc: Global, out: &mut Octets, line: &Line) -> Result<(), Memory>
             put_value(alloc, out, value)
         }
         Line::Deliver { node, ring, inst } => put_head(
-            alloc,
             out,
             b"deliver",
             &[u64::from(node.0), u64::from(ring.0), *inst],
@@ -65,7 +63,6 @@ fn put_words(alloc: Global, out: &mut Octets, line: &Line) -> Result<(), Memory>
             reply,
         } => {
             put_head(
-                alloc,
                 out,
                 b"reply",
                 &[
@@ -80,15 +77,15 @@ fn put_words(alloc: Global, out: &mut Octets, line: &Line) -> Result<(), Memory>
             put_hex(alloc, out, reply.bytes())
         }
         Line::Answer { client, seq, reply } => put_answer(alloc, out, *client, *seq, reply),
-        Line::Busy { client, seq } => put_head(alloc, out, b"busy", &[u64::from(client.0), *seq]),
+        Line::Busy { client, seq } => put_head(out, b"busy", &[u64::from(client.0), *seq]),
         Line::Begin {
             node,
             epoch,
             attempt,
             tuple,
         } => {
-            put_head(alloc, out, b"begin", &[u64::from(node.0), *epoch, *attempt])?;
-            put_tuple(alloc, out, tuple)
+            put_head(out, b"begin", &[u64::from(node.0), *epoch, *attempt])?;
+            put_tuple(out, tuple)
         }
         Line::Chose {
             node,
@@ -97,20 +94,19 @@ fn put_words(alloc: Global, out: &mut Octets, line: &Line) -> Result<(), Memory>
             tuple,
             from,
         } => {
-            put_head(alloc, out, b"chose", &[u64::from(node.0), *epoch, *attempt])?;
-            put_tuple(alloc, out, tuple)?;
-            put_number(alloc, out, u64::from(from.0))
+            put_head(out, b"chose", &[u64::from(node.0), *epoch, *attempt])?;
+            put_tuple(out, tuple)?;
+            put_number(out, u64::from(from.0))
         }
         Line::Restore { node, tuple } => {
-            put_head(alloc, out, b"restore", &[u64::from(node.0)])?;
-            put_tuple(alloc, out, tuple)
+            put_head(out, b"restore", &[u64::from(node.0)])?;
+            put_tuple(out, tuple)
         }
         Line::Saved { node, tuple } => {
-            put_head(alloc, out, b"saved", &[u64::from(node.0)])?;
-            put_tuple(alloc, out, tuple)
+            put_head(out, b"saved", &[u64::from(node.0)])?;
+            put_tuple(out, tuple)
         }
         Line::Trim { node, ring, inst } => put_head(
-            alloc,
             out,
             b"trim",
             &[u64::from(node.0), u64::from(ring.0), *inst],
@@ -122,51 +118,50 @@ fn put_words(alloc: Global, out: &mut Octets, line: &Line) -> Result<(), Memory>
             answered,
             needed,
         } => put_head(
-            alloc,
             out,
             b"refuse",
             &[u64::from(node.0), *epoch, *attempt, *answered, *needed],
         ),
-        Line::BallotLimit { node, ring } => put_ballot_limit(alloc, out, *node, *ring),
-        Line::InstanceLimit { node, ring } => put_instance_limit(alloc, out, *node, *ring),
+        Line::BallotLimit { node, ring } => put_ballot_limit(out, *node, *ring),
+        Line::InstanceLimit { node, ring } => put_instance_limit(out, *node, *ring),
         Line::AttemptLimit { node } => {
-            put_head(alloc, out, b"limit", &[u64::from(node.0)])?;
+            put_head(out, b"limit", &[u64::from(node.0)])?;
             put_word(out, b"attempt")
         }
         Line::Down { node, cause } => {
-            put_head(alloc, out, b"down", &[u64::from(node.0)])?;
+            put_head(out, b"down", &[u64::from(node.0)])?;
             put_cause(out, *cause)
         }
-        Line::Up { node, epoch } => put_head(alloc, out, b"up", &[u64::from(node.0), *epoch]),
+        Line::Up { node, epoch } => put_head(out, b"up", &[u64::from(node.0), *epoch]),
         Line::State { node, shown } => {
-            put_head(alloc, out, b"state", &[u64::from(node.0)])?;
+            put_head(out, b"state", &[u64::from(node.0)])?;
             put_state(alloc, out, shown)
         }
         Line::Frame { number, shown } => {
-            put_head(alloc, out, b"frame", &[*number])?;
+            put_head(out, b"frame", &[*number])?;
             put_frame(alloc, out, shown)
         }
-        Line::End { events } => put_head(alloc, out, b"end", &[*events]),
+        Line::End { events } => put_head(out, b"end", &[*events]),
     }
 }
 
 // Adds each of the numbers in decimal, after this byte.
-fn put_each(alloc: Global, out: &mut Octets, byte: u8, numbers: &[u64]) -> Result<(), Memory>
+fn put_each(out: &mut Octets, byte: u8, numbers: &[u64]) -> Result<(), Memory>
     ensures { OnOk result (out.new ≡ out.old ++ flat_map (set_off byte) (map decimal numbers.now)) }
 {
     for number in numbers {
         out.push(byte)?;
-        out.extend(number.to_string(alloc)?.as_bytes())?;
+        put_decimal(out, *number)?;
     }
     Ok(())
 }
 
 // Adds the first word of a line, and numbers behind it.
-fn put_head(alloc: Global, out: &mut Octets, word: &[u8], numbers: &[u64]) -> Result<(), Memory>
+fn put_head(out: &mut Octets, word: &[u8], numbers: &[u64]) -> Result<(), Memory>
     ensures { OnOk result (out.new ≡ out.old ++ (word.now ++ flat_map spaced (map decimal numbers.now))) }
 {
     out.extend(word)?;
-    put_each(alloc, out, b' ', numbers)
+    put_each(out, b' ', numbers)
 }
 
 fn put_answer(
@@ -178,34 +173,24 @@ fn put_answer(
 ) -> Result<(), Memory>
     ensures { OnOk result (out.new ≡ out.old ++ joined (line_words (Answer client seq reply.now))) }
 {
-    put_head(alloc, out, b"answer", &[u64::from(client.0), seq])?;
+    put_head(out, b"answer", &[u64::from(client.0), seq])?;
     put_hex(alloc, out, reply.bytes())
 }
 
-fn put_ballot_limit(
-    alloc: Global,
-    out: &mut Octets,
-    node: NodeId,
-    ring: RingId,
-) -> Result<(), Memory>
+fn put_ballot_limit(out: &mut Octets, node: NodeId, ring: RingId) -> Result<(), Memory>
     ensures { OnOk result (out.new ≡ out.old ++ joined (line_words (BallotLimit node ring))) }
 {
-    put_head(alloc, out, b"limit", &[u64::from(node.0)])?;
+    put_head(out, b"limit", &[u64::from(node.0)])?;
     put_word(out, b"ballot")?;
-    put_number(alloc, out, u64::from(ring.0))
+    put_number(out, u64::from(ring.0))
 }
 
-fn put_instance_limit(
-    alloc: Global,
-    out: &mut Octets,
-    node: NodeId,
-    ring: RingId,
-) -> Result<(), Memory>
+fn put_instance_limit(out: &mut Octets, node: NodeId, ring: RingId) -> Result<(), Memory>
     ensures { OnOk result (out.new ≡ out.old ++ joined (line_words (InstanceLimit node ring))) }
 {
-    put_head(alloc, out, b"limit", &[u64::from(node.0)])?;
+    put_head(out, b"limit", &[u64::from(node.0)])?;
     put_word(out, b"instance")?;
-    put_number(alloc, out, u64::from(ring.0))
+    put_number(out, u64::from(ring.0))
 }
 
 fn put_value(alloc: Global, out: &mut Octets, value: &Value) -> Result<(), Memory>
@@ -218,14 +203,14 @@ fn put_value(alloc: Global, out: &mut Octets, value: &Value) -> Result<(), Memor
 }
 
 // Adds the instances with commas between.
-fn put_tuple(alloc: Global, out: &mut Octets, tuple: &Instances) -> Result<(), Memory>
+fn put_tuple(out: &mut Octets, tuple: &Instances) -> Result<(), Memory>
     ensures { OnOk result (out.new ≡ out.old ++ spaced (tuple_text tuple.now)) }
 {
     let Some((first, others)) = tuple.items().split_first() else {
         return out.push(b' ');
     };
-    put_number(alloc, out, *first)?;
-    put_each(alloc, out, b',', others)
+    put_number(out, *first)?;
+    put_each(out, b',', others)
 }
 
 fn put_cause(out: &mut Octets, cause: Cause) -> Result<(), Memory>
@@ -244,7 +229,7 @@ fn put_state(alloc: Global, out: &mut Octets, shown: &Option<ShownState>) -> Res
     match shown {
         None => put_word(out, b"-"),
         Some(shown) => {
-            put_tuple(alloc, out, &shown.tuple)?;
+            put_tuple(out, &shown.tuple)?;
             put_hex(alloc, out, shown.bytes.bytes())
         }
     }
@@ -256,27 +241,27 @@ fn put_frame(alloc: Global, out: &mut Octets, shown: &Option<ShownFrame>) -> Res
     match shown {
         None => put_word(out, b"none"),
         Some(shown) => {
-            put_party(alloc, out, shown.from)?;
-            put_party(alloc, out, shown.to)?;
+            put_party(out, shown.from)?;
+            put_party(out, shown.to)?;
             put_hex(alloc, out, shown.bytes.bytes())
         }
     }
 }
 
-fn put_party(alloc: Global, out: &mut Octets, party: Party) -> Result<(), Memory>
+fn put_party(out: &mut Octets, party: Party) -> Result<(), Memory>
     ensures { OnOk result (out.new ≡ out.old ++ spaced (party_text party)) }
 {
     match party {
-        Party::Node(node) => put_name(alloc, out, b'n', node.0),
-        Party::Client(client) => put_name(alloc, out, b'c', client.0),
+        Party::Node(node) => put_name(out, b'n', node.0),
+        Party::Client(client) => put_name(out, b'c', client.0),
     }
 }
 
 // Adds a space, a letter and a number behind it.
-fn put_name(alloc: Global, out: &mut Octets, letter: u8, number: u8) -> Result<(), Memory>
+fn put_name(out: &mut Octets, letter: u8, number: u8) -> Result<(), Memory>
     ensures { OnOk result (out.new ≡ out.old ++ spaced (letter ∷ decimal number)) }
 {
     out.push(b' ')?;
     out.push(letter)?;
-    out.extend(number.to_string(alloc)?.as_bytes())
+    put_decimal(out, u64::from(number))
 }

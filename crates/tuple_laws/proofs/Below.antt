@@ -8,7 +8,7 @@ use Rattle.mrp_config.specs.Valid.{IncreasesFrom, numbers_of_rings}
 use Rattle.plain_model.specs.Tuples.{next_place, past, past_many, first_tuple, is_at_or_after, is_valid_tuple, has_rings, is_tuple_of}
 use Rattle.plain_model.specs.Fold.{both_known, entries_known, entries_of_next, count_below, rings_of, entries_below}
 use Rattle.plain_model.proofs.TupleOrder.{split_and}
-use Rattle.tuple_laws.proofs.Moving.{rings_moved, has_itself, first_count, count_past, fewer, reached}
+use Rattle.mrp_types.proofs.TupleMoves.{rings_moved, has_itself, first_count, count_past, fewer, reached}
 
 -- ---- entries below
 

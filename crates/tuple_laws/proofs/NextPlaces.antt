@@ -9,7 +9,7 @@ use Rattle.plain_model.specs.Tuples.{place_of, next_place, tuple_at, count_befor
 use Rattle.plain_model.proofs.TupleOrder.{split_and, both_true, same_number, next_is_one, none_before_next, not_below_by, valid_is_front}
 use Rattle.plain_model.proofs.TupleChain.{Apart, or_apart, le_is, reaches_same, same_first, later_rings}
 use Rattle.plain_model.proofs.TupleAt.{below_is_before, not_below_is_not_before}
-use Rattle.tuple_laws.proofs.Moving.{itself}
+use Rattle.mrp_types.proofs.TupleMoves.{itself}
 
 -- ---- the tuple of the next place
 

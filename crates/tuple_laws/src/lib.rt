@@ -13,12 +13,6 @@ ghost use Rattle.mrp_config.specs.Valid.{IncreasesFrom, numbers_of_rings};
 ghost use Rattle.plain_model.specs.Tuples.{is_at_or_after, place_of, next_place, past, past_many, first_tuple, tuple_at, is_tuple_of};
 ghost use Rattle.plain_model.specs.Fold.{entries_of_next, both_known, entries_known, count_below, entries_below};
 
-/// A valid tuple of increasing rings is what moves leave of the first one, as many of them as places are below the tuple.
-pub fn valid_tuples_are_reached()
-    ensures { (m : ℕ → ℕ) (rings : List RingId) (tuple : List (RingId × ℕ)) → IncreasesFrom 0 (numbers_of_rings rings) → is_tuple_of m rings tuple ≡ true →
-        past_many m (count_below tuple) (first_tuple rings) ≡ tuple }
-{}
-
 /// No entry is below the first tuple. Below a valid tuple's next one are the entries that were below it, and then those at its
 /// next place; none are known there where either isn't known.
 pub fn entries_below_go_on()

@@ -15,21 +15,21 @@ use Rattle.vote_state.specs.declared.ring.RingState.{RingState}
 use Rattle.vote_state.specs.Valid.{IsRing}
 use Rattle.vote_state.proofs.StateLemmas.{append_all, none_kept}
 use Rattle.vote_journal.specs.Journal.{Journal}
-use Rattle.checkpoint.specs.Checks.{Checks}
+use Rattle.checkpoint.specs.Checkpoints.{Checkpoints}
 use Rattle.frames.specs.declared.frame.Frame.{Frame}
 use Rattle.frames.specs.declared.sent.Sent.{Sent}
 use Rattle.protocol.specs.Lines.{Line, Learn, Cause}
 use Rattle.protocol.specs.Lines as line
-use Rattle.protocol.specs.Client.{ClientDid}
+use Rattle.protocol.specs.Client.{ClientEffects}
 use Rattle.protocol.specs.Node.{Event, Ticks, Takes, Leads, Stepped}
 use Rattle.protocol.specs.Opening.{opened}
 use Rattle.protocol.specs.Step.{step}
-use Rattle.bare_world.specs.Worlds.{Possible, Host, Up, Down, World, Happening, Steps, Breaks, Crashes, Opens, Fails, Asks, ClientTicks, ClientTakes, Shows, Lists, nothing, possible_of, chosen, with_host, goes_on, steps_as, breaks_as, crashes_as, opens_as, fails_as, goes_down, client_does, state_of_host, happens}
+use Rattle.bare_world.specs.Worlds.{Possible, Host, Up, Down, World, Happening, Steps, Breaks, Crashes, Opens, Fails, Asks, ClientTicks, ClientTakes, Shows, Lists, nothing, possible_of, chosen, with_host, after_step, steps_as, breaks_as, crashes_as, opens_as, fails_as, goes_down, client_step, state_of_host, happens}
 use Rattle.bare_world.specs.Runs.{WasSent, MayCome, MayOpenAt, MayLeaveAt, MayHappen, run, MayRun}
 use Rattle.step_valid.specs.Valid.{SentValid, BodyValid, IsMemberOf, LineValid, AreNumbered, EventValid, StepValid}
 use Rattle.step_valid.proofs.Ending.{step_valid, opened_valid}
 use Rattle.valid_runs.specs.Worlds.{HostValid, ClientValid, LineFits, WorkValid, ReadValid, WorldValid}
-use Rattle.valid_runs.proofs.Clients.{ClientDidValid, asks_valid, ticks_valid, takes_valid}
+use Rattle.valid_runs.proofs.Clients.{ClientEffectsValid, asks_valid, ticks_valid, takes_valid}
 
 -- ---- deployments
 
@@ -81,15 +81,15 @@ module _ (config : Config) (deployed : AreNumbered config) where
       go k true = h
       go k false = v.hosts k
 
-  goes_on_valid : (id own : NodeId) (before : List Line) (did : Stepped) (w : World) → AllByRecursion (LineFits config) before → StepValid config own did → WorldValid config w
-      → WorldValid config (goes_on id before did w)
-  goes_on_valid id own before did w first s v =
-      let host = with_host_valid id (Up did.view) w s.view v in
+  after_step_valid : (id own : NodeId) (before : List Line) (made : Stepped) (w : World) → AllByRecursion (LineFits config) before → StepValid config own made → WorldValid config w
+      → WorldValid config (after_step id before made w)
+  after_step_valid id own before made w first s v =
+      let host = with_host_valid id (Up made.view) w s.view v in
       record {
         hosts = host.hosts;
         clients = v.clients;
-        frames = append_all SentValid w.frames did.frames v.frames s.frames;
-        lines = append_all (LineFits config) w.lines (before ++ did.lines) v.lines (append_all (LineFits config) before did.lines first (lines_fit config own did.lines s.lines));
+        frames = append_all SentValid w.frames made.frames v.frames s.frames;
+        lines = append_all (LineFits config) w.lines (before ++ made.lines) v.lines (append_all (LineFits config) before made.lines first (lines_fit config own made.lines s.lines));
         works = v.works;
         read = v.read;
       }
@@ -107,17 +107,17 @@ module _ (config : Config) (deployed : AreNumbered config) where
         read = v.read;
       }
 
-  client_valid : (id : ClientId) (did : ClientDid) (w : World) → ClientDidValid config did → WorldValid config w → WorldValid config (client_does id did w)
-  client_valid id did w d v = record {
+  client_valid : (id : ClientId) (made : ClientEffects) (w : World) → ClientEffectsValid config made → WorldValid config w → WorldValid config (client_step id made w)
+  client_valid id made w d v = record {
     hosts = v.hosts;
     clients = λ k. go k (k == id.0);
-    frames = append_all SentValid w.frames did.frames v.frames d.frames;
-    lines = append_all (LineFits config) w.lines did.lines v.lines d.lines;
+    frames = append_all SentValid w.frames made.frames v.frames d.frames;
+    lines = append_all (LineFits config) w.lines made.lines v.lines d.lines;
     works = v.works;
     read = v.read;
   }
     where
-      go : (k : ℕ) (b : Bool) → ClientValid (if b then did.client else w.clients k)
+      go : (k : ℕ) (b : Bool) → ClientValid (if b then made.client else w.clients k)
       go k true = d.client
       go k false = v.clients k
 
@@ -132,7 +132,7 @@ module _ (config : Config) (deployed : AreNumbered config) where
   steps_valid id event (Down durable pending) w h e v = v
   steps_valid id event (Up view) w h e v =
       let s = step_valid config deployed view h event e in
-      let on = goes_on_valid id view.id [] (step config view event) w tt s v in
+      let on = after_step_valid id view.id [] (step config view event) w tt s v in
       record {
         hosts = on.hosts;
         clients = on.clients;
@@ -152,12 +152,12 @@ module _ (config : Config) (deployed : AreNumbered config) where
   crashes_valid id cause (Down durable pending) w h v = v
   crashes_valid id cause (Up view) w h v = goes_down_valid id cause (possible_of view) (possible_of view) w h.state h.state v
 
-  opens_valid : (id : NodeId) (after : Bool) (journal : Journal) (checks : Checks) (host : Host) (w : World) → HostValid config host → MayOpenAt config id after journal checks host
-      → WorldValid config w → WorldValid config (opens_as config id journal checks host w)
-  opens_valid id after journal checks (Up view) w h may v = v
-  opens_valid id after journal checks (Down durable pending) w h may v =
+  opens_valid : (id : NodeId) (after : Bool) (journal : Journal) (checkpoints : Checkpoints) (host : Host) (w : World) → HostValid config host → MayOpenAt config id after journal checkpoints host
+      → WorldValid config w → WorldValid config (opens_as config id journal checkpoints host w)
+  opens_valid id after journal checkpoints (Up view) w h may v = v
+  opens_valid id after journal checkpoints (Down durable pending) w h may v =
       let state = same_rings journal.state (chosen after durable pending).state may.rings (chosen_valid after durable pending h.0 h.1) in
-      let on = goes_on_valid id id (line.Up id journal.state.epoch ∷ []) (opened config id journal checks) w (tt, tt) (opened_valid config id journal checks state) v in
+      let on = after_step_valid id id (line.Up id journal.state.epoch ∷ []) (opened config id journal checkpoints) w (tt, tt) (opened_valid config id journal checkpoints state) v in
       record {
         hosts = on.hosts;
         clients = on.clients;
@@ -181,7 +181,7 @@ module _ (config : Config) (deployed : AreNumbered config) where
   happens_valid (Steps id event) w v may = steps_valid id event (w.hosts id.0) w (v.hosts id.0) (event_valid w id event may v) v
   happens_valid (Breaks id event cause) w v may = breaks_valid id event cause (w.hosts id.0) w (v.hosts id.0) (event_valid w id event may v) v
   happens_valid (Crashes id cause) w v may = crashes_valid id cause (w.hosts id.0) w (v.hosts id.0) v
-  happens_valid (Opens id after journal checks) w v may = opens_valid id after journal checks (w.hosts id.0) w (v.hosts id.0) may v
+  happens_valid (Opens id after journal checkpoints) w v may = opens_valid id after journal checkpoints (w.hosts id.0) w (v.hosts id.0) may v
   happens_valid (Fails id after left cause) w v may = fails_valid id after left cause (w.hosts id.0) w (v.hosts id.0) may.1 v
   happens_valid (Asks id command) w v may = client_valid id _ w (asks_valid config (w.clients id.0) (v.clients id.0) command may.1.valid) v
   happens_valid (ClientTicks id) w v may = client_valid id _ w (ticks_valid config (w.clients id.0) (v.clients id.0)) v

@@ -1,5 +1,5 @@
 -- An opening: what it answers, and what a crash leaves meanwhile.
-use Rattle.std.proofs.Common.{arith, ◌≡◌, ◌⊎◌, inl, inr, ℕ, ◌+◌, ◌<◌, ◌≤◌, ◌^◌, min, Bool, true, List, [], ◌∷◌, ◌++◌, length, take, ◌==◌, Option, None, Some, Result, Ok, Err, refl, sym, ap, ◌∙◌, subst}
+use Rattle.std.proofs.Common.{arith, lit<, ◌≡◌, ◌⊎◌, inl, inr, ℕ, ◌+◌, ◌<◌, ◌≤◌, ◌^◌, min, Bool, true, List, [], ◌∷◌, ◌++◌, length, take, ◌==◌, Option, None, Some, Result, Ok, Err, refl, sym, ap, ◌∙◌, subst}
 use Rattle.std.proofs.Math.Seq.{take-append-add}
 use Rattle.std.proofs.lemmas.Bool.{cases_lt}
 use Rattle.std.proofs.lemmas.List.{take-append-le, take_all}
@@ -182,7 +182,7 @@ valid_epoch s fits = (fits, tt)
 pub raised : (id : NodeId) (records : List (List ℕ)) (s : State) → state_of id records ≡ Ok s → s.epoch + 1 < 2 ^ 32 → state_of id (records ++ epoch_record id records s ∷ []) ≡ Ok (taken (next_epoch s) s)
 raised id [] s is fits =
     let none : nothing_kept ≡ s = ok_is nothing_kept s is in
-    let read = whole_first_again (record { node = id; changes = next_epoch s }) (record { each = valid_epoch s fits; epoch = refl }) in
+    let read = whole_first_again (record { node = id; changes = next_epoch s }) (record { each = valid_epoch s fits; epoch = refl }) (lit< tt) in
     let first : first_state id (first_of (first_bytes id (next_epoch nothing_kept))) ≡ Ok (taken (next_epoch nothing_kept) nothing_kept) =
     rw (subst (λ (x : State). first_of (first_bytes id (next_epoch x)) ≡ Ok (record { node = id; changes = next_epoch x })) (sym none) read, same_node id) refl in
     subst (λ (x : State). state_of id (first_bytes id (next_epoch x) ∷ []) ≡ Ok (taken (next_epoch x) x)) none (rw first refl)
@@ -192,7 +192,7 @@ raised id [] s is fits =
 
     ok_is : (a b : State) → done a ≡ done b → a ≡ b
     ok_is a b h = cc
-raised id (r ∷ rs) s is fits = one_more id (r ∷ rs) s (next_epoch s) (omega arith) is (valid_epoch s fits) (rising s.epoch)
+raised id (r ∷ rs) s is fits = one_more id (r ∷ rs) s (next_epoch s) (omega arith) is (record { some = lit< tt; fits = lit< tt }) (valid_epoch s fits) (rising s.epoch)
 
 -- ---- what a crash leaves
 

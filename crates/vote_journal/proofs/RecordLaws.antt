@@ -1,5 +1,5 @@
 -- A record is read as it is spelled, and what is read is spelled so.
-use Rattle.std.proofs.Common.{◌≡◌, ℕ, zero, suc, ◌+◌, ◌-◌, ◌^◌, ◌<◌, ◌≤◌, true, false, List, [], ◌∷◌, ◌++◌, ◌==◌, if◌then◌else◌, length, Result, Ok, Err, refl, sym, ap, subst, ◌∙◌, append_assoc, append-nil, arith, inl, inr, IsTrue, IfOk}
+use Rattle.std.proofs.Common.{◌≡◌, ℕ, zero, suc, ◌+◌, ◌-◌, ◌^◌, ◌<◌, ◌≤◌, Bool, true, false, List, [], ◌∷◌, ◌++◌, ◌==◌, if◌then◌else◌, nat_lt, length, Result, Ok, Err, refl, sym, ap, subst, ◌∙◌, append_assoc, append-nil, arith, inl, inr, IsTrue, IfOk}
 use Rattle.std.specs.Prelude.{IsErrAnd}
 use Rattle.std.specs.Int.{w32, w64}
 use Rattle.std.specs.List.{AllByRecursion}
@@ -11,7 +11,8 @@ use Rattle.mrp_types.specs.declared.value.Value.{Value}
 use Rattle.command_codec.specs.declared.fault.CodecFault.{CodecFault}
 use Rattle.command_codec.specs.declared.fault.CodecFault.TheVariants.{BadKind, BadField, Left}
 use Rattle.command_codec.specs.Fields.{u32_bytes, u64_bytes}
-use Rattle.command_codec.specs.Reader.{Spot, ◌>>=◌, byte_at, number_at, within, both, shown, nothing, ended, start, Fails, Reads, Says}
+use Rattle.command_codec.specs.Reader.{Spot, Reader, ◌>>=◌, byte_at, number_at, within, both, shown, nothing, ended, whole, start, Fails, Reads, Says}
+use Rattle.mrp_types.proofs.TestLemmas.{both as both_tests, below}
 use Rattle.command_codec.proofs.ReaderLaws.{AreBytes, bound, ok_is, then_was, Took, took_both, Again, Field, number_law, wide32, rest_are}
 use Rattle.command_codec.proofs.Combined.{follow_law, both_law, shown_was, kind_was, kind_again, chosen}
 use Rattle.command_codec.proofs.PartLaws.{ring_text, IsRing, ring_law, IsNumber, wide_law, range_text, IsRangeFrom, range_law, not_none, MayStand, value_text, value_law}
@@ -20,9 +21,9 @@ use Rattle.mrp_types.specs.declared.voted.Voted.{Voted}
 use Rattle.vote_state.specs.declared.change.Change.{Change}
 use Rattle.vote_state.specs.declared.change.Change.TheVariants.{Epoch, Promise, Vote, Trim}
 use Rattle.vote_journal.specs.declared.record.First.{First}
-use Rattle.vote_journal.specs.Spelling.{change_bytes, changes_bytes, first_bytes, is_epoch_first, IsFirst}
+use Rattle.vote_journal.specs.Spelling.{change_bytes, changes_bytes, named_bytes, numbered, record_bytes, first_bytes, IsRecord, is_epoch_first, IsFirst}
 use Rattle.vote_state.specs.Valid.{IsChange}
-use Rattle.vote_journal.specs.Grammar.{epoch_at, promise_at, range_value_at, vote_of, vote_at, trim_at, change_of_kind, change_at, is_past, changes_at, changes_of, first_changes_at, first_at, first_of}
+use Rattle.vote_journal.specs.Grammar.{epoch_at, promise_at, range_value_at, vote_of, vote_at, trim_at, change_of_kind, change_at, is_past, changes_at, is_newer, is_count, numbered_at, in_format, changes_of, first_changes_at, first_at, first_size, first_of}
 
 -- ---- reading in turn
 
@@ -251,39 +252,125 @@ no_more_changes_than_bytes (c ∷ cs) =
     let parts : length (changes_bytes (c ∷ cs)) ≡ length (change_bytes c) + length (changes_bytes cs) = ap (λ (x : List ℕ). length x) (flat_map-cons change_bytes c cs) ∙ length-append (change_bytes c) (changes_bytes cs) in
     omega arith
 
+-- ---- the formats
+
+-- a body alone is the text of what was read
+alone_was : (V : Type 0) (body : Reader V) (text : V → List ℕ) (Is : V → Type 0) → ((spot : Spot) (x : V × Spot) → AreBytes spot.rest → body spot ≡ Ok x → Took spot (text x.0) x.1 × Is x.0) →
+    (bytes : List ℕ) (value : V) → AreBytes bytes → whole body bytes ≡ Ok value → (bytes ≡ text value) × Is value
+alone_was V body text Is was bytes value are h =
+    let p = bound (body (start bytes)) (λ x. ended x.0 x.1) value h in
+    let g = then_was (length p.0.1.rest == 0) (Left p.0.1.at) p.0.0 value p.2 in
+    let t = was (start bytes) p.0 are p.1 in
+    let none : p.0.1.rest ≡ [] = nil_from_length p.0.1.rest (eqb-true _ _ g.0) in
+    let parts : bytes ≡ text p.0.0 = t.0.parts ∙ ap (λ (r : List ℕ). text p.0.0 ++ r) none ∙ append-nil (text p.0.0) in
+    subst (λ (v : V). (bytes ≡ text v) × Is v) g.1 (parts, t.1)
+
+count_was : (count size : ℕ) → is_count count size ≡ true → (0 < count) × (size ≡ count)
+count_was count size h =
+    let tests = both_tests (nat_lt 0 count) (size == count) h in
+    (below 0 count tests.0, eqb-true size count tests.1)
+
+-- behind the first byte is the number of changes, and they are the text of what was read
+numbered_was : (V : Type 0) (size : V → ℕ) (body : Reader V) (text : V → List ℕ) (Is : V → Type 0) → ((spot : Spot) (x : V × Spot) → AreBytes spot.rest → body spot ≡ Ok x → Took spot (text x.0) x.1 × Is x.0) →
+    (first : ℕ) (rest : List ℕ) (value : V) → AreBytes (first ∷ rest) → whole (numbered_at size body) (first ∷ rest) ≡ Ok value → (rest ≡ u32_bytes (size value) ++ text value) × (0 < size value) × (size value < 2 ^ 32) × Is value
+unfolding numbered_at
+numbered_was V size body text Is was first rest value are h =
+    let behind : Spot = record { at = 1; rest = rest } in
+    let p = bound (number_at w32 behind >>= λ count. body count.1 >>= λ x. if is_count count.0 (size x.0) then Ok x else Err (BadField 1)) (λ x. ended x.0 x.1) value h in
+    let g = then_was (length p.0.1.rest == 0) (Left p.0.1.at) p.0.0 value p.2 in
+    let q = bound (number_at w32 behind) (λ count. body count.1 >>= λ x. if is_count count.0 (size x.0) then Ok x else Err (BadField 1)) p.0 p.1 in
+    let n = (number_law w32 (2 ^ 32) u32_bytes wide32).was behind q.0 (rest_are first rest are) q.1 in
+    let r = bound (body q.0.1) (λ x. if is_count q.0.0 (size x.0) then Ok x else Err (BadField 1)) p.0 q.2 in
+    let t = was q.0.1 r.0 n.0.bytes r.1 in
+    let c = then_was (is_count q.0.0 (size r.0.0)) (BadField 1) r.0 p.0 r.2 in
+    let counts = count_was q.0.0 (size r.0.0) c.0 in
+    let none : r.0.1.rest ≡ [] = ap (λ (y : V × Spot). y.1.rest) c.1 ∙ nil_from_length p.0.1.rest (eqb-true _ _ g.0) in
+    let parts : rest ≡ u32_bytes (size r.0.0) ++ text r.0.0 =
+    n.0.parts ∙ ap (λ (t : List ℕ). u32_bytes q.0.0 ++ t) (t.0.parts ∙ ap (λ (t : List ℕ). text r.0.0 ++ t) none ∙ append-nil (text r.0.0)) ∙ ap (λ (k : ℕ). u32_bytes k ++ text r.0.0) (sym counts.1) in
+    subst (λ (v : V). (rest ≡ u32_bytes (size v) ++ text v) × (0 < size v) × (size v < 2 ^ 32) × Is v) (ap (λ (y : V × Spot). y.0) c.1 ∙ g.1)
+    (parts, rw counts.1 counts.0, rw counts.1 n.1, t.1)
+
+-- what was read of a record in either format is spelled so
+pub record_was : (V : Type 0) (size : V → ℕ) (body : Reader V) (text : V → List ℕ) (Is : V → Type 0) → ((spot : Spot) (x : V × Spot) → AreBytes spot.rest → body spot ≡ Ok x → Took spot (text x.0) x.1 × Is x.0) →
+    (bytes : List ℕ) (value : V) → AreBytes bytes → whole (in_format (is_newer bytes) size body) bytes ≡ Ok value → IsRecord (size value) (text value) bytes × Is value
+record_was V size body text Is was [] value are h = let t = alone_was V body text Is was [] value are h in (inl t.0, t.1)
+record_was V size body text Is was (b ∷ rest) value are h = by (b == 6) refl h
+  where
+    by : (newer : Bool) → (b == 6) ≡ newer → whole (in_format newer size body) (b ∷ rest) ≡ Ok value → IsRecord (size value) (text value) (b ∷ rest) × Is value
+    by true six h =
+        let t = numbered_was V size body text Is was b rest value are h in
+        (inr (ap (λ (k : ℕ). k ∷ rest) (eqb-true b 6 six) ∙ ap (λ (r : List ℕ). 6 ∷ r) t.0, t.1, t.2), t.3)
+    by false six h = let t = alone_was V body text Is was (b ∷ rest) value are h in (inl t.0, t.1)
+
+-- what holds of all that a body reads holds in either format
+pub in_either_format : (V : Type 0) (size : V → ℕ) (body : Reader V) (P : V → Type 0) → ((spot : Spot) (x : V × Spot) → body spot ≡ Ok x → P x.0) →
+    (newer : Bool) (spot : Spot) (x : V × Spot) → in_format newer size body spot ≡ Ok x → P x.0
+unfolding numbered_at
+in_either_format V size body P each false spot x h = each spot x h
+in_either_format V size body P each true spot x h =
+    let k = bound (byte_at spot) (λ kind. number_at w32 kind.1 >>= λ count. body count.1 >>= λ y. if is_count count.0 (size y.0) then Ok y else Err (BadField kind.1.at)) x h in
+    let n = bound (number_at w32 k.0.1) (λ count. body count.1 >>= λ y. if is_count count.0 (size y.0) then Ok y else Err (BadField k.0.1.at)) x k.2 in
+    let f = bound (body n.0.1) (λ y. if is_count n.0.0 (size y.0) then Ok y else Err (BadField k.0.1.at)) x n.2 in
+    let t = then_was (is_count n.0.0 (size f.0.0)) (BadField k.0.1.at) f.0 x f.2 in
+    subst (λ (y : V × Spot). P y.0) t.1 (each n.0.1 f.0 f.1)
+
+-- what is spelled as a body is read, where the reader takes all of its text at each place
+abbrev pub IsReadAgain : (V : Type 0) → Reader V → List ℕ → V → Type 0
+IsReadAgain V body text value = (at : ℕ) → (behind : ℕ) × (body (record { at = at; rest = text }) ≡ Ok (value, record { at = behind; rest = [] }))
+
+alone_again : (V : Type 0) (size : V → ℕ) (body : Reader V) (text : List ℕ) (value : V) → is_newer text ≡ false → IsReadAgain V body text value → whole (in_format (is_newer text) size body) text ≡ Ok value
+alone_again V size body text value older again = let r = again 0 in rw (older, r.1) refl
+
+numbered_again : (V : Type 0) (size : V → ℕ) (body : Reader V) (text : List ℕ) (value : V) → 0 < size value → size value < 2 ^ 32 → IsReadAgain V body text value → whole (numbered_at size body) (numbered (size value) text) ≡ Ok value
+unfolding numbered_at
+numbered_again V size body text value some fits again =
+    let n = (number_law w32 (2 ^ 32) u32_bytes wide32).again (size value) 1 text fits in
+    let r = again n.0 in
+    let counts = is_counted (size value) some in
+    rw (n.1, r.1, counts) refl
+  where
+    is_counted : (n : ℕ) → 0 < n → is_count n n ≡ true
+    is_counted n some = grind arith
+
+-- the kinds of changes are others than 6
+older_changes : (changes : List Change) → is_newer (changes_bytes changes) ≡ false
+older_changes [] = refl
+older_changes (Epoch epoch ∷ cs) = ap is_newer (flat_map-cons change_bytes (Epoch epoch) cs)
+older_changes (Promise ring ballot ∷ cs) = ap is_newer (flat_map-cons change_bytes (Promise ring ballot) cs)
+older_changes (Vote ring v ∷ cs) = ap is_newer (flat_map-cons change_bytes (Vote ring v) cs)
+older_changes (Trim ring inst ∷ cs) = ap is_newer (flat_map-cons change_bytes (Trim ring inst) cs)
+
 -- ---- all of the bytes of a record
 
-all_were : (bytes : List ℕ) (changes : List Change) → AreBytes bytes → changes_of bytes ≡ Ok changes → (bytes ≡ changes_bytes changes) × AllByRecursion IsChange changes
-all_were bytes changes are h =
-    let p = bound (changes_at (length bytes) (start bytes)) (λ x. ended x.0 x.1) changes h in
-    let g = then_was (length p.0.1.rest == 0) (Left p.0.1.at) p.0.0 changes p.2 in
-    let t = changes_were (length bytes) (start bytes) p.0 are p.1 in
-    let none : p.0.1.rest ≡ [] = nil_from_length p.0.1.rest (eqb-true _ _ g.0) in
-    let parts : bytes ≡ changes_bytes p.0.0 = t.0.parts ∙ ap (λ (r : List ℕ). changes_bytes p.0.0 ++ r) none ∙ append-nil (changes_bytes p.0.0) in
-    subst (λ (v : List Change). (bytes ≡ changes_bytes v) × AllByRecursion IsChange v) g.1 (parts, t.1)
+all_were : (bytes : List ℕ) (changes : List Change) → AreBytes bytes → changes_of bytes ≡ Ok changes → IsRecord (length changes) (changes_bytes changes) bytes × AllByRecursion IsChange changes
+all_were bytes changes are h = record_was (List Change) (λ cs. length cs) (changes_at (length bytes)) changes_bytes (AllByRecursion IsChange) (changes_were (length bytes)) bytes changes are h
 
-pub all_again : (changes : List Change) → AllByRecursion IsChange changes → changes_of (changes_bytes changes) ≡ Ok changes
-all_again changes each =
-    let r = changes_again changes (length (changes_bytes changes)) 0 (no_more_changes_than_bytes changes) each in
-    rw r.1 refl
+-- a record of format 2 is read
+pub all_again : (changes : List Change) → 0 < length changes → length changes < 2 ^ 32 → AllByRecursion IsChange changes → changes_of (record_bytes changes) ≡ Ok changes
+all_again changes some fits each =
+    numbered_again (List Change) (λ cs. length cs) (changes_at (length (record_bytes changes))) (changes_bytes changes) changes some fits
+    (λ at. changes_again changes (length (record_bytes changes)) at (omega (arith, no_more_changes_than_bytes changes, length-append (u32_bytes (length changes)) (changes_bytes changes))) each)
 
-pub found_by : (bytes : List ℕ) (r : Result (List Change) CodecFault) → AreBytes bytes → Says (λ (c : List Change). c) (changes_of bytes) r → IfOk r (λ c. (bytes ≡ changes_bytes c) × AllByRecursion IsChange c)
+again_so : (changes : List Change) (bytes : List ℕ) → AllByRecursion IsChange changes → IsRecord (length changes) (changes_bytes changes) bytes → changes_of bytes ≡ Ok changes
+again_so changes bytes each (inl alone) =
+    ap changes_of alone
+    ∙ alone_again (List Change) (λ cs. length cs) (changes_at (length (changes_bytes changes))) (changes_bytes changes) changes (older_changes changes)
+    (λ at. changes_again changes (length (changes_bytes changes)) at (no_more_changes_than_bytes changes) each)
+again_so changes bytes each (inr numbered) = ap changes_of numbered.0 ∙ all_again changes numbered.1 numbered.2 each
+
+pub found_by : (bytes : List ℕ) (r : Result (List Change) CodecFault) → AreBytes bytes → Says (λ (c : List Change). c) (changes_of bytes) r → IfOk r (λ c. IsRecord (length c) (changes_bytes c) bytes × AllByRecursion IsChange c)
 found_by bytes (Ok changes) are says = all_were bytes changes are says
 found_by bytes (Err e) are says = tt
 
 pub only_so : (bytes : List ℕ) (r : Result (List Change) CodecFault) → Says (λ (c : List Change). c) (changes_of bytes) r → (changes : List Change) → AllByRecursion IsChange changes →
-    bytes ≡ changes_bytes changes → Says (λ (c : List Change). c) (Ok changes) r
+    IsRecord (length changes) (changes_bytes changes) bytes → Says (λ (c : List Change). c) (Ok changes) r
 only_so bytes r says changes each spelled =
-    let read : changes_of bytes ≡ Ok changes = ap changes_of spelled ∙ all_again changes each in
-    subst (λ (o : Result (List Change) CodecFault). Says (λ (c : List Change). c) o r) read says
+    subst (λ (o : Result (List Change) CodecFault). Says (λ (c : List Change). c) o r) (again_so changes bytes each spelled) says
 
 -- ---- the first record
 
 abbrev pub made_first : ℕ × List Change → First
 made_first x = record { node = record { 0 = x.0 }; changes = x.1 }
-
-abbrev pub WasFirst : List ℕ → First → Type 0
-WasFirst bytes first = (bytes ≡ first_bytes first.node first.changes) × IsFirst first
 
 first_were : (most : ℕ) (spot : Spot) (x : List Change × Spot) → AreBytes spot.rest → first_changes_at most spot ≡ Ok x → WereRead spot x × IsTrue (is_epoch_first x.0)
 first_were most spot x are h =
@@ -292,59 +379,68 @@ first_were most spot x are h =
     let t = changes_were most spot p.0 are p.1 in
     subst (λ (y : List Change × Spot). WereRead spot y × IsTrue (is_epoch_first y.0)) g.1 (t, g.0)
 
--- what was read of a first record, before the end was looked for
-abbrev pub FirstRead : List ℕ → First × Spot → Type 0
-FirstRead bytes x = (bytes ≡ first_bytes x.0.node x.0.changes ++ x.1.rest) × IsFirst x.0
+-- what was read of a first record's changes
+abbrev pub FirstRead : ℕ → List ℕ → First × Spot → Type 0
+FirstRead at bytes x = Took (record { at = at; rest = bytes }) (named_bytes x.0.node x.0.changes) x.1 × IsFirst x.0
 
-after_kind : (most behind : ℕ) (rest : List ℕ) (x : First × Spot) → AreBytes rest → shown made_first (both byte_at (first_changes_at most)) (record { at = behind; rest = rest }) ≡ Ok x → FirstRead (5 ∷ rest) x
-after_kind most behind [] x are h = absurd (no_byte most behind x h)
+after_kind : (most at behind : ℕ) (rest : List ℕ) (x : First × Spot) → AreBytes rest → shown made_first (both byte_at (first_changes_at most)) (record { at = behind; rest = rest }) ≡ Ok x → FirstRead at (5 ∷ rest) x
+after_kind most at behind [] x are h = absurd (no_byte most behind x h)
   where
     no_byte : (most behind : ℕ) (x : First × Spot) → shown made_first (both byte_at (first_changes_at most)) (record { at = behind; rest = [] }) ≡ Ok x → ⊥
     no_byte most behind x h = cc
-after_kind most behind (node ∷ rest) x are h =
+after_kind most at behind (node ∷ rest) x are h =
     let p = shown_was (ℕ × List Change) First made_first (both byte_at (first_changes_at most)) (record { at = behind; rest = node ∷ rest }) x h in
     let q = bound (first_changes_at most (record { at = behind + 1; rest = rest })) (λ b. Ok ((node, b.0), b.1)) p.0 p.1 in
     let t = first_were most (record { at = behind + 1; rest = rest }) q.0 (rest_are node rest are) q.1 in
     let parts : 5 ∷ node ∷ rest ≡ 5 ∷ node ∷ (changes_bytes q.0.0 ++ q.0.1.rest) = ap (λ (r : List ℕ). 5 ∷ node ∷ r) t.0.0.parts in
-    subst (λ (y : First × Spot). FirstRead (5 ∷ node ∷ rest) y) (ap (λ (y : (ℕ × List Change) × Spot). (made_first y.0, y.1)) (ok_is ((node, q.0.0), q.0.1) p.0 q.2) ∙ p.2)
-    (parts, record { each = t.0.1; epoch = t.1 })
+    subst (λ (y : First × Spot). FirstRead at (5 ∷ node ∷ rest) y) (ap (λ (y : (ℕ × List Change) × Spot). (made_first y.0, y.1)) (ok_is ((node, q.0.0), q.0.1) p.0 q.2) ∙ p.2)
+    (record { parts = parts; bytes = t.0.0.bytes }, record { each = t.0.1; epoch = t.1 })
 
-first_was : (most : ℕ) (bytes : List ℕ) (x : First × Spot) → AreBytes bytes → first_at most (start bytes) ≡ Ok x → FirstRead bytes x
+first_was : (most at : ℕ) (bytes : List ℕ) (x : First × Spot) → AreBytes bytes → first_at most (record { at = at; rest = bytes }) ≡ Ok x → FirstRead at bytes x
 unfolding first_at
-first_was most [] x are h = absurd (no_byte most x h)
+first_was most at [] x are h = absurd (no_byte most at x h)
   where
-    no_byte : (most : ℕ) (x : First × Spot) → first_at most (start []) ≡ Ok x → ⊥
-    no_byte most x h = cc
-first_was most (kind ∷ rest) x are h =
-    chosen First (kind == 5) _ _ x (FirstRead (kind ∷ rest) x) h
-    (λ is r. subst (λ (k : ℕ). FirstRead (k ∷ rest) x) (sym (eqb-true kind 5 is)) (after_kind most 1 rest x (rest_are kind rest are) r))
-    (λ r. absurd (no_kind x r))
+    no_byte : (most at : ℕ) (x : First × Spot) → first_at most (record { at = at; rest = [] }) ≡ Ok x → ⊥
+    no_byte most at x h = cc
+first_was most at (kind ∷ rest) x are h =
+    chosen First (kind == 5) _ _ x (FirstRead at (kind ∷ rest) x) h
+    (λ is r. subst (λ (k : ℕ). FirstRead at (k ∷ rest) x) (sym (eqb-true kind 5 is)) (after_kind most at (at + 1) rest x (rest_are kind rest are) r))
+    (λ r. absurd (no_kind at x r))
   where
-    no_kind : (x : First × Spot) → Err (BadKind 0) ≡ Ok x → ⊥
-    no_kind x h = cc
+    no_kind : (at : ℕ) (x : First × Spot) → Err (BadKind at) ≡ Ok x → ⊥
+    no_kind at x h = cc
 
-whole_first_was : (bytes : List ℕ) (first : First) → AreBytes bytes → first_of bytes ≡ Ok first → WasFirst bytes first
+abbrev pub IsFirstRecord : First → List ℕ → Type 0
+IsFirstRecord first bytes = IsRecord (first_size first) (named_bytes first.node first.changes) bytes
+
+whole_first_was : (bytes : List ℕ) (first : First) → AreBytes bytes → first_of bytes ≡ Ok first → IsFirstRecord first bytes × IsFirst first
 whole_first_was bytes first are h =
-    let p = bound (first_at (length bytes) (start bytes)) (λ x. ended x.0 x.1) first h in
-    let g = then_was (length p.0.1.rest == 0) (Left p.0.1.at) p.0.0 first p.2 in
-    let t = first_was (length bytes) bytes p.0 are p.1 in
-    let none : p.0.1.rest ≡ [] = nil_from_length p.0.1.rest (eqb-true _ _ g.0) in
-    let parts : bytes ≡ first_bytes p.0.0.node p.0.0.changes = t.0 ∙ ap (λ (r : List ℕ). first_bytes p.0.0.node p.0.0.changes ++ r) none ∙ append-nil (first_bytes p.0.0.node p.0.0.changes) in
-    subst (λ (f : First). WasFirst bytes f) g.1 (parts, t.1)
+    record_was First first_size (first_at (length bytes)) (λ f. named_bytes f.node f.changes) IsFirst (λ spot x are h. first_was (length bytes) spot.at spot.rest x are h) bytes first are h
 
-pub whole_first_again : (first : First) → IsFirst first → first_of (first_bytes first.node first.changes) ≡ Ok first
+first_again : (most : ℕ) (first : First) → IsFirst first → length first.changes ≤ most → IsReadAgain First (first_at most) (named_bytes first.node first.changes) first
 unfolding first_at
-whole_first_again first is =
-    let fits = no_more_changes_than_bytes first.changes in
-    let r = changes_again first.changes (length (first_bytes first.node first.changes)) 2 (omega arith) is.each in
+first_again most first is fits at =
+    let r = changes_again first.changes most (at + 1 + 1) fits is.each in
     let epoch : is_epoch_first first.changes ≡ true = is.epoch in
-    rw (r.1, epoch) refl
+    (r.0, rw (r.1, epoch) refl)
 
-pub found_first : (bytes : List ℕ) (r : Result First CodecFault) → AreBytes bytes → Says (λ (f : First). f) (first_of bytes) r → IfOk r (λ f. (bytes ≡ first_bytes f.node f.changes) × IsFirst f)
+-- a first record of format 2 is read
+pub whole_first_again : (first : First) → IsFirst first → length first.changes + 1 < 2 ^ 32 → first_of (first_bytes first.node first.changes) ≡ Ok first
+whole_first_again first is fits =
+    numbered_again First first_size (first_at (length (first_bytes first.node first.changes))) (named_bytes first.node first.changes) first (omega arith) fits
+    (first_again (length (first_bytes first.node first.changes)) first is (omega (arith, no_more_changes_than_bytes first.changes, length-append (u32_bytes (length first.changes + 1)) (named_bytes first.node first.changes))))
+
+first_again_so : (first : First) (bytes : List ℕ) → IsFirst first → IsFirstRecord first bytes → first_of bytes ≡ Ok first
+first_again_so first bytes is (inl alone) =
+    let text = named_bytes first.node first.changes in
+    ap first_of alone
+    ∙ alone_again First first_size (first_at (length text)) text first refl (first_again (length text) first is (omega (arith, no_more_changes_than_bytes first.changes)))
+first_again_so first bytes is (inr numbered) = ap first_of numbered.0 ∙ whole_first_again first is numbered.2
+
+pub found_first : (bytes : List ℕ) (r : Result First CodecFault) → AreBytes bytes → Says (λ (f : First). f) (first_of bytes) r → IfOk r (λ f. IsFirstRecord f bytes × IsFirst f)
 found_first bytes (Ok first) are says = whole_first_was bytes first are says
 found_first bytes (Err e) are says = tt
 
-pub only_first : (bytes : List ℕ) (r : Result First CodecFault) → Says (λ (f : First). f) (first_of bytes) r → (first : First) → IsFirst first → bytes ≡ first_bytes first.node first.changes → Says (λ (f : First). f) (Ok first) r
+pub only_first : (bytes : List ℕ) (r : Result First CodecFault) → Says (λ (f : First). f) (first_of bytes) r → (first : First) → IsFirst first → IsFirstRecord first bytes → Says (λ (f : First). f) (Ok first) r
 only_first bytes r says first is spelled =
-    let read : first_of bytes ≡ Ok first = ap first_of spelled ∙ whole_first_again first is in
-    subst (λ (o : Result First CodecFault). Says (λ (f : First). f) o r) read says
+    subst (λ (o : Result First CodecFault). Says (λ (f : First). f) o r) (first_again_so first bytes is spelled) says

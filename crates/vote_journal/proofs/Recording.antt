@@ -1,5 +1,6 @@
 -- A record more: what the records then stand for, and what a crash leaves meanwhile.
-use Rattle.std.proofs.Common.{arith, ◌≡◌, ◌⊎◌, inl, inr, ℕ, ◌+◌, ◌<◌, true, List, [], ◌∷◌, ◌++◌, length, Option, Some, Result, Ok, Err, refl, ap, ◌∙◌}
+use Rattle.std.proofs.Common.{arith, ◌≡◌, ◌⊎◌, inl, inr, ℕ, ◌+◌, ◌<◌, ◌^◌, Bool, true, List, [], ◌∷◌, ◌++◌, length, Option, Some, Result, Ok, Err, refl, ap, ◌∙◌}
+use Rattle.std.specs.Prelude.{not, ◌||◌, if◌then◌else◌}
 use Rattle.std.specs.List.{AllByRecursion}
 use Rattle.mrp_types.specs.declared.id.NodeId.{NodeId}
 use Rattle.disk_model.specs.declared.areas.Areas.{Areas}
@@ -11,11 +12,13 @@ use Rattle.gate_log.proofs.Phases.{leaves_as, stays_leaves}
 use Rattle.vote_state.specs.declared.change.Change.{Change}
 use Rattle.vote_state.specs.State.{State, taken}
 use Rattle.vote_state.specs.Valid.{IsChange}
+use Rattle.command_codec.specs.declared.fault.CodecFault.{CodecFault}
 use Rattle.vote_journal.specs.declared.fault.OpenFault.{OpenFault}
+use Rattle.vote_journal.specs.declared.fault.OpenFault.TheVariants.{BadRecord}
 use Rattle.vote_journal.specs.Epochs.{epochs_rise}
-use Rattle.vote_journal.specs.Spelling.{changes_bytes}
-use Rattle.vote_journal.specs.Grammar.{changes_of, first_of}
-use Rattle.vote_journal.specs.Journal.{◌>>=◌, with_changes, with_records, first_state, state_of, Journal, state_in, Stands, BeforeOrAfter}
+use Rattle.vote_journal.specs.Spelling.{record_bytes}
+use Rattle.vote_journal.specs.Grammar.{is_newer, changes_of, first_of}
+use Rattle.vote_journal.specs.Journal.{◌>>=◌, with_changes, with_record, with_records, first_state, state_of, Journal, state_in, Stands, BeforeOrAfter}
 use Rattle.vote_journal.proofs.RecordLaws.{all_again}
 
 abbrev pub ok : State → Result State OpenFault
@@ -26,28 +29,36 @@ ok_is s next h = cc
 
 -- ---- what the records stand for
 
-more_records : (at : ℕ) (s next : State) (rs : List (List ℕ)) (bytes : List ℕ) (cs : List Change) → with_records at s rs ≡ Ok next → changes_of bytes ≡ Ok cs → epochs_rise next.epoch cs ≡ true →
-    with_records at s (rs ++ bytes ∷ []) ≡ Ok (taken cs next)
-more_records at s next [] bytes cs so_far read rise =
+more_records : (at : ℕ) (newer : Bool) (s next : State) (rs : List (List ℕ)) (bytes : List ℕ) (cs : List Change) → is_newer bytes ≡ true → with_records at newer s rs ≡ Ok next → changes_of bytes ≡ Ok cs → epochs_rise next.epoch cs ≡ true →
+    with_records at newer s (rs ++ bytes ∷ []) ≡ Ok (taken cs next)
+more_records at newer s next [] bytes cs second so_far read rise =
     let same : s ≡ next = ok_is s next so_far in
     let rises : epochs_rise s.epoch cs ≡ true = ap (λ (x : State). epochs_rise x.epoch cs) same ∙ rise in
-    let once : with_records at s (bytes ∷ []) ≡ Ok (taken cs s) = rw (read, rises) refl in
+    let once : with_records at newer s (bytes ∷ []) ≡ Ok (taken cs s) = ap (λ (r : Result State OpenFault). r >>= λ x. ok x) (taken_by (is_newer bytes) (changes_of bytes) second read rises) in
     once ∙ ap (λ (x : State). Ok (taken cs x)) same
-more_records at s next (r ∷ rs) bytes cs so_far read rise = by_first (with_changes at s (changes_of r)) so_far (λ x h. more_records (at + (5 + length r)) x next rs bytes cs h read rise)
   where
-    by_first : (one : Result State OpenFault) → (one >>= λ x. with_records (at + (5 + length r)) x rs) ≡ Ok next →
-        ((x : State) → with_records (at + (5 + length r)) x rs ≡ Ok next → with_records (at + (5 + length r)) x (rs ++ bytes ∷ []) ≡ Ok (taken cs next)) →
-        (one >>= λ x. with_records (at + (5 + length r)) x (rs ++ bytes ∷ [])) ≡ Ok (taken cs next)
+    taken_by : (b : Bool) (r : Result (List Change) CodecFault) → b ≡ true → r ≡ Ok cs → epochs_rise s.epoch cs ≡ true → (if b || not newer then with_changes at s r else Err (BadRecord at)) ≡ Ok (taken cs s)
+    taken_by b r second read rises = rw (second, read, rises) refl
+more_records at newer s next (r ∷ rs) bytes cs second so_far read rise = by_first (with_record at newer s r) so_far (λ x h. more_records (at + (5 + length r)) (is_newer r) x next rs bytes cs second h read rise)
+  where
+    by_first : (one : Result State OpenFault) → (one >>= λ x. with_records (at + (5 + length r)) (is_newer r) x rs) ≡ Ok next →
+        ((x : State) → with_records (at + (5 + length r)) (is_newer r) x rs ≡ Ok next → with_records (at + (5 + length r)) (is_newer r) x (rs ++ bytes ∷ []) ≡ Ok (taken cs next)) →
+        (one >>= λ x. with_records (at + (5 + length r)) (is_newer r) x (rs ++ bytes ∷ [])) ≡ Ok (taken cs next)
     by_first (Ok x) h later = later x h
     by_first (Err e) h later = absurd cc
 
-pub one_more : (id : NodeId) (records : List (List ℕ)) (s : State) (cs : List Change) → 0 < length records → state_of id records ≡ Ok s → AllByRecursion IsChange cs → epochs_rise s.epoch cs ≡ true →
-    state_of id (records ++ changes_bytes cs ∷ []) ≡ Ok (taken cs s)
-one_more id [] s cs some so_far each rise = absurd (omega (arith, some))
-one_more id (r ∷ rs) s cs some so_far each rise = by_first (first_state id (first_of r)) so_far
+-- changes of which there is one at least, and which a record has room for
+pub record IsCounted (cs : List Change) : Type 0 where
+  pub some : 0 < length cs
+  pub fits : length cs < 2 ^ 32
+
+pub one_more : (id : NodeId) (records : List (List ℕ)) (s : State) (cs : List Change) → 0 < length records → state_of id records ≡ Ok s → IsCounted cs → AllByRecursion IsChange cs → epochs_rise s.epoch cs ≡ true →
+    state_of id (records ++ record_bytes cs ∷ []) ≡ Ok (taken cs s)
+one_more id [] s cs some so_far counted each rise = absurd (omega (arith, some))
+one_more id (r ∷ rs) s cs some so_far counted each rise = by_first (first_state id (first_of r)) so_far
   where
-    by_first : (one : Result State OpenFault) → (one >>= λ x. with_records (16 + (5 + length r)) x rs) ≡ Ok s → (one >>= λ x. with_records (16 + (5 + length r)) x (rs ++ changes_bytes cs ∷ [])) ≡ Ok (taken cs s)
-    by_first (Ok x) h = more_records (16 + (5 + length r)) x s rs (changes_bytes cs) cs h (all_again cs each) rise
+    by_first : (one : Result State OpenFault) → (one >>= λ x. with_records (16 + (5 + length r)) (is_newer r) x rs) ≡ Ok s → (one >>= λ x. with_records (16 + (5 + length r)) (is_newer r) x (rs ++ record_bytes cs ∷ [])) ≡ Ok (taken cs s)
+    by_first (Ok x) h = more_records (16 + (5 + length r)) (is_newer r) x s rs (record_bytes cs) cs refl h (all_again cs counted.some counted.fits each) rise
     by_first (Err e) h = absurd cc
 
 -- ---- what a crash leaves
@@ -76,20 +87,20 @@ as_states id records later old new before image first second leaves = record { c
     either (inr is) = inr (later, is, second)
 
 -- what adding the record leaves
-pub recording : (t : Told) (now : Option Told) (j : Journal) (cs : List Change) → AllByRecursion IsChange cs → epochs_rise j.state.epoch cs ≡ true → (stands : Stands j (reads t)) →
-    LeavesOnly t now (OldOrNew stands.records (stands.records ++ changes_bytes cs ∷ []) (reads t)) → LeavesOnly t now (BeforeOrAfter j.id j.state (taken cs j.state) (reads t))
-recording t now j cs each rise stands leaves =
-    leaves_as t now (OldOrNew stands.records (stands.records ++ changes_bytes cs ∷ []) (reads t)) (BeforeOrAfter j.id j.state (taken cs j.state) (reads t)) leaves
-    (λ image. as_states j.id stands.records (stands.records ++ changes_bytes cs ∷ []) j.state (taken cs j.state) (reads t) image stands.state (one_more j.id stands.records j.state cs stands.some stands.state each rise))
+pub recording : (t : Told) (now : Option Told) (j : Journal) (cs : List Change) → IsCounted cs → AllByRecursion IsChange cs → epochs_rise j.state.epoch cs ≡ true → (stands : Stands j (reads t)) →
+    LeavesOnly t now (OldOrNew stands.records (stands.records ++ record_bytes cs ∷ []) (reads t)) → LeavesOnly t now (BeforeOrAfter j.id j.state (taken cs j.state) (reads t))
+recording t now j cs counted each rise stands leaves =
+    leaves_as t now (OldOrNew stands.records (stands.records ++ record_bytes cs ∷ []) (reads t)) (BeforeOrAfter j.id j.state (taken cs j.state) (reads t)) leaves
+    (λ image. as_states j.id stands.records (stands.records ++ record_bytes cs ∷ []) j.state (taken cs j.state) (reads t) image stands.state (one_more j.id stands.records j.state cs stands.some stands.state counted each rise))
 
 -- the journal holds after it
-pub recorded_stands : (id : NodeId) (log next : Log) (s : State) (records : List (List ℕ)) (cs : List Change) (areas : Areas) → 0 < length records → state_of id records ≡ Ok s → AllByRecursion IsChange cs → epochs_rise s.epoch cs ≡ true →
-    Holds next (records ++ changes_bytes cs ∷ []) areas → Stands (record { id = id; log = next; state = taken cs s }) areas
-recorded_stands id log next s records cs areas some state each rise holds = record {
-  records = records ++ changes_bytes cs ∷ [];
-  some = longer records (changes_bytes cs);
+pub recorded_stands : (id : NodeId) (log next : Log) (s : State) (records : List (List ℕ)) (cs : List Change) (areas : Areas) → 0 < length records → state_of id records ≡ Ok s → IsCounted cs → AllByRecursion IsChange cs → epochs_rise s.epoch cs ≡ true →
+    Holds next (records ++ record_bytes cs ∷ []) areas → Stands (record { id = id; log = next; state = taken cs s }) areas
+recorded_stands id log next s records cs areas some state counted each rise holds = record {
+  records = records ++ record_bytes cs ∷ [];
+  some = longer records (record_bytes cs);
   holds = holds;
-  state = one_more id records s cs some state each rise;
+  state = one_more id records s cs some state counted each rise;
 }
   where
     longer : (rs : List (List ℕ)) (r : List ℕ) → 0 < length (rs ++ r ∷ [])

@@ -1,6 +1,6 @@
 -- One record in place of all: it makes the same state.
-use Rattle.std.proofs.Common.{arith, ◌≡◌, ℕ, suc, ◌+◌, ◌<◌, ◌≤◌, ◌==◌, nat_lt, if◌then◌else◌, Bool, true, false, List, [], ◌∷◌, ◌++◌, length, map, Option, Result, Ok, Err, refl, ap, ◌∙◌, subst, append_assoc}
-use Rattle.std.specs.Prelude.{nat_eq}
+use Rattle.std.proofs.Common.{arith, ◌≡◌, ℕ, suc, ◌+◌, ◌<◌, ◌≤◌, ◌^◌, ◌==◌, nat_lt, if◌then◌else◌, Bool, true, false, List, [], ◌∷◌, ◌++◌, length, map, Option, Result, Ok, Err, refl, ap, ◌∙◌, subst, append_assoc}
+use Rattle.std.specs.Prelude.{nat_eq, not, ◌||◌}
 use Rattle.std.specs.List.{AllByRecursion}
 use Rattle.std.proofs.lemmas.Bool.{eq-eqb}
 use Rattle.mrp_types.specs.declared.id.NodeId.{NodeId}
@@ -28,9 +28,9 @@ use Rattle.vote_journal.specs.declared.fault.OpenFault.TheVariants.{BadRecord, W
 use Rattle.vote_journal.specs.declared.record.First.{First}
 use Rattle.vote_journal.specs.Epochs.{epochs_rise}
 use Rattle.vote_journal.specs.Spelling.{first_bytes, is_epoch_first}
-use Rattle.vote_journal.specs.Grammar.{changes_of, changes_at, first_changes_at, first_at, first_of}
-use Rattle.vote_journal.specs.Journal.{◌>>=◌, with_changes, with_records, first_state, state_of, Journal, Stands, BeforeOrAfter}
-use Rattle.vote_journal.proofs.RecordLaws.{whole_first_again, made_first}
+use Rattle.vote_journal.specs.Grammar.{is_newer, in_format, changes_of, changes_at, first_changes_at, first_at, first_size, first_of}
+use Rattle.vote_journal.specs.Journal.{◌>>=◌, with_changes, with_record, with_records, first_state, state_of, Journal, Stands, BeforeOrAfter}
+use Rattle.vote_journal.proofs.RecordLaws.{in_either_format, whole_first_again, made_first}
 use Rattle.vote_journal.proofs.Recording.{ok, ok_is, as_states}
 
 -- ---- epochs
@@ -56,15 +56,23 @@ record_rises at s next (Ok cs) h = by_test (epochs_rise s.epoch cs) refl h
     by_test true rise h = subst (λ (x : State). s.epoch ≤ x.epoch) (ok_is (taken cs s) next h) (epoch_rises cs s rise)
     by_test false rise h = absurd cc
 
--- nor those of records
-records_rise : (at : ℕ) (s next : State) (rs : List (List ℕ)) → with_records at s rs ≡ Ok next → s.epoch ≤ next.epoch
-records_rise at s next [] h = let same : s ≡ next = ok_is s next h in rw same (omega arith)
-records_rise at s next (r ∷ rs) h = by_first (with_changes at s (changes_of r)) refl h (λ x. records_rise (at + (5 + length r)) x next rs)
+-- nor those of a record behind others
+later_rises : (at : ℕ) (newer : Bool) (s next : State) (r : List ℕ) → with_record at newer s r ≡ Ok next → s.epoch ≤ next.epoch
+later_rises at newer s next r h = by_test (is_newer r || not newer) h
   where
-    by_first : (one : Result State OpenFault) → with_changes at s (changes_of r) ≡ one → (one >>= λ x. with_records (at + (5 + length r)) x rs) ≡ Ok next →
-        ((x : State) → with_records (at + (5 + length r)) x rs ≡ Ok next → x.epoch ≤ next.epoch) → s.epoch ≤ next.epoch
+    by_test : (b : Bool) → (if b then with_changes at s (changes_of r) else Err (BadRecord at)) ≡ Ok next → s.epoch ≤ next.epoch
+    by_test true h = record_rises at s next (changes_of r) h
+    by_test false h = absurd cc
+
+-- nor those of records
+records_rise : (at : ℕ) (newer : Bool) (s next : State) (rs : List (List ℕ)) → with_records at newer s rs ≡ Ok next → s.epoch ≤ next.epoch
+records_rise at newer s next [] h = let same : s ≡ next = ok_is s next h in rw same (omega arith)
+records_rise at newer s next (r ∷ rs) h = by_first (with_record at newer s r) refl h (λ x. records_rise (at + (5 + length r)) (is_newer r) x next rs)
+  where
+    by_first : (one : Result State OpenFault) → with_record at newer s r ≡ one → (one >>= λ x. with_records (at + (5 + length r)) (is_newer r) x rs) ≡ Ok next →
+        ((x : State) → with_records (at + (5 + length r)) (is_newer r) x rs ≡ Ok next → x.epoch ≤ next.epoch) → s.epoch ≤ next.epoch
     by_first (Ok x) is h later =
-        let first = record_rises at s x (changes_of r) is in
+        let first = later_rises at newer s x r is in
         let rest = later x h in
         omega arith
     by_first (Err e) is h later = absurd cc
@@ -85,24 +93,25 @@ after_kind most behind (node ∷ rest) x h =
     let epoch = changes_first most (record { at = behind + 1; rest = rest }) q.0 q.1 in
     subst (λ (y : First × Spot). is_epoch_first y.0.changes ≡ true) (ap (λ (y : (ℕ × List Change) × Spot). (made_first y.0, y.1)) (read_is ((node, q.0.0), q.0.1) p.0 q.2) ∙ p.2) epoch
 
-at_start : (most : ℕ) (bytes : List ℕ) (x : First × Spot) → first_at most (start bytes) ≡ Ok x → is_epoch_first x.0.changes ≡ true
+at_spot : (most at : ℕ) (bytes : List ℕ) (x : First × Spot) → first_at most (record { at = at; rest = bytes }) ≡ Ok x → is_epoch_first x.0.changes ≡ true
 unfolding first_at
-at_start most [] x h = absurd (no_byte most x h)
+at_spot most at [] x h = absurd (no_byte most at x h)
   where
-    no_byte : (most : ℕ) (x : First × Spot) → first_at most (start []) ≡ Ok x → ⊥
-    no_byte most x h = cc
-at_start most (kind ∷ rest) x h =
-    chosen First (kind == 5) _ _ x (is_epoch_first x.0.changes ≡ true) h (λ is r. after_kind most 1 rest x r) (λ r. absurd (no_kind x r))
+    no_byte : (most at : ℕ) (x : First × Spot) → first_at most (record { at = at; rest = [] }) ≡ Ok x → ⊥
+    no_byte most at x h = cc
+at_spot most at (kind ∷ rest) x h =
+    chosen First (kind == 5) _ _ x (is_epoch_first x.0.changes ≡ true) h (λ is r. after_kind most (at + 1) rest x r) (λ r. absurd (no_kind at x r))
   where
-    no_kind : (x : First × Spot) → Err (BadKind 0) ≡ Ok x → ⊥
-    no_kind x h = cc
+    no_kind : (at : ℕ) (x : First × Spot) → Err (BadKind at) ≡ Ok x → ⊥
+    no_kind at x h = cc
 
 -- what was read as a first record begins with an epoch
 starts_with_epoch : (bytes : List ℕ) (first : First) → first_of bytes ≡ Ok first → is_epoch_first first.changes ≡ true
 starts_with_epoch bytes first h =
-    let p = bound (first_at (length bytes) (start bytes)) (λ x. ended x.0 x.1) first h in
+    let p = bound (in_format (is_newer bytes) first_size (first_at (length bytes)) (start bytes)) (λ x. ended x.0 x.1) first h in
     let g = then_was (length p.0.1.rest == 0) (Left p.0.1.at) p.0.0 first p.2 in
-    subst (λ (f : First). is_epoch_first f.changes ≡ true) g.1 (at_start (length bytes) bytes p.0 p.1)
+    subst (λ (f : First). is_epoch_first f.changes ≡ true) g.1
+    (in_either_format First first_size (first_at (length bytes)) (λ f. is_epoch_first f.changes ≡ true) (λ spot x read. at_spot (length bytes) spot.at spot.rest x read) (is_newer bytes) (start bytes) p.0 p.1)
 
 -- changes that begin with an epoch, and rise from nothing, make one of at least 1
 some_epoch : (cs : List Change) (s : State) → is_epoch_first cs ≡ true → epochs_rise 0 cs ≡ true → 0 < (taken cs s).epoch
@@ -130,10 +139,10 @@ pub kept_epoch : (id : NodeId) (records : List (List ℕ)) (s : State) → 0 < l
 kept_epoch id [] s some h = absurd (omega (arith, some))
 kept_epoch id (r ∷ rs) s some h = by_first (first_state id (first_of r)) refl h
   where
-    by_first : (one : Result State OpenFault) → first_state id (first_of r) ≡ one → (one >>= λ x. with_records (16 + (5 + length r)) x rs) ≡ Ok s → 0 < s.epoch
+    by_first : (one : Result State OpenFault) → first_state id (first_of r) ≡ one → (one >>= λ x. with_records (16 + (5 + length r)) (is_newer r) x rs) ≡ Ok s → 0 < s.epoch
     by_first (Ok x) is h =
         let first = first_rises id (first_of r) x (starts_with_epoch r) is in
-        let rest = records_rise (16 + (5 + length r)) x s rs h in
+        let rest = records_rise (16 + (5 + length r)) (is_newer r) x s rs h in
         omega arith
     by_first (Err e) is h = absurd cc
 
@@ -181,11 +190,11 @@ first_made id cs read s is rise made =
     rw (is, rise, own) (ap (λ (x : State). ok x) made)
 
 -- one first record of the changes that make a state stands for it
-pub one_record_state : (id : NodeId) (s : State) (cs : List Change) → cs ≡ state_changes s → AllByRecursion IsChange cs → taken cs nothing_kept ≡ s → 0 < s.epoch → state_of id (first_bytes id cs ∷ []) ≡ Ok s
-one_record_state id s cs are each made some =
+pub one_record_state : (id : NodeId) (s : State) (cs : List Change) → cs ≡ state_changes s → AllByRecursion IsChange cs → taken cs nothing_kept ≡ s → 0 < s.epoch → length cs + 1 < 2 ^ 32 → state_of id (first_bytes id cs ∷ []) ≡ Ok s
+one_record_state id s cs are each made some fits =
     let rise : epochs_rise 0 cs ≡ true = ap (λ (l : List Change). epochs_rise 0 l) are ∙ state_rises s some in
     let epoch : is_epoch_first cs ≡ true = ap (λ (l : List Change). is_epoch_first l) are in
-    let read = whole_first_again (record { node = id; changes = cs }) (record { each = each; epoch = epoch }) in
+    let read = whole_first_again (record { node = id; changes = cs }) (record { each = each; epoch = epoch }) fits in
     let first = first_made id cs (first_of (first_bytes id cs)) s read rise made in
     rw first refl
 

@@ -1,5 +1,5 @@
 -- Reading of records.
-use Rattle.std.specs.Prelude.{ℕ, zero, suc, ◌==◌, if◌then◌else◌, Bool, true, List, [], ◌∷◌, length, Result, Ok, Err}
+use Rattle.std.specs.Prelude.{ℕ, zero, suc, ◌+◌, ◌==◌, nat_lt, ◌&&◌, if◌then◌else◌, Bool, true, false, List, [], ◌∷◌, length, Result, Ok, Err}
 use Rattle.std.specs.Int.{w32}
 use Rattle.mrp_types.specs.declared.id.RingId.{RingId}
 use Rattle.mrp_types.specs.declared.value.Value.{Value}
@@ -62,9 +62,31 @@ changes_at (suc most) spot =
       others ← changes_at most first.1
       Ok (first.0 ∷ others.0, others.1))
 
+-- whether the bytes of a record begin as format 2 does
+abbrev pub is_newer : List ℕ → Bool
+is_newer [] = false
+is_newer (b ∷ bytes) = b == 6
+
+-- whether this is the number of changes, of which there is one at least
+abbrev pub is_count : ℕ → ℕ → Bool
+is_count count size = nat_lt 0 count && (size == count)
+
+-- the byte 6, the number of changes, and these, of which `size` says how many there are
+unfoldable pub numbered_at : {V : Type 0} → (V → ℕ) → Reader V → Reader V
+numbered_at size changes spot = do
+  kind ← byte_at spot
+  count ← number_at w32 kind.1
+  x ← changes count.1
+  if is_count count.0 (size x.0) then Ok x else Err (BadField kind.1.at)
+
+-- changes in format 2, or alone as in format 1
+abbrev pub in_format : {V : Type 0} → Bool → (V → ℕ) → Reader V → Reader V
+in_format true size changes = numbered_at size changes
+in_format false size changes = changes
+
 -- The changes of a record, all of the bytes. Each has a byte at least, so there are no more changes than bytes.
 abbrev pub changes_of : List ℕ → Result (List Change) CodecFault
-changes_of bytes = whole (changes_at (length bytes)) bytes
+changes_of bytes = whole (in_format (is_newer bytes) (λ (changes : List Change). length changes) (changes_at (length bytes))) bytes
 
 -- changes of which the first is an epoch
 abbrev pub first_changes_at : ℕ → Reader (List Change)
@@ -78,6 +100,10 @@ first_at most spot = do
   kind ← byte_at spot
   if kind.0 == 5 then shown (λ x. record { node = record { 0 = x.0 }; changes = x.1 }) (both byte_at (first_changes_at most)) kind.1 else Err (BadKind spot.at)
 
+-- the node is a change too
+abbrev pub first_size : First → ℕ
+first_size first = length first.changes + 1
+
 -- the first record, all of the bytes
 abbrev pub first_of : List ℕ → Result First CodecFault
-first_of bytes = whole (first_at (length bytes)) bytes
+first_of bytes = whole (in_format (is_newer bytes) first_size (first_at (length bytes))) bytes

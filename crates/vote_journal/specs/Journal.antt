@@ -1,5 +1,5 @@
 -- A journal on a disk: the state that its records stand for, and the calls of each operation.
-use Rattle.std.specs.Prelude.{◌≡◌, ◌⊎◌, ℕ, ◌+◌, ◌-◌, ◌<◌, ◌≤◌, ◌^◌, ◌==◌, if◌then◌else◌, List, [], ◌∷◌, ◌++◌, length, Option, Result, Ok, Err}
+use Rattle.std.specs.Prelude.{◌≡◌, ◌⊎◌, ℕ, ◌+◌, ◌-◌, ◌<◌, ◌≤◌, ◌^◌, ◌==◌, ◌||◌, not, if◌then◌else◌, Bool, List, [], ◌∷◌, ◌++◌, length, Option, Result, Ok, Err}
 use Rattle.mrp_types.specs.declared.id.NodeId.{NodeId}
 use Rattle.disk_model.specs.declared.area.Area.{Area}
 use Rattle.disk_model.specs.declared.areas.Areas.{Areas}
@@ -18,8 +18,8 @@ use Rattle.vote_journal.specs.declared.record.First.{First}
 use Rattle.vote_journal.specs.declared.fault.OpenFault.{OpenFault}
 use Rattle.vote_journal.specs.declared.fault.OpenFault.TheVariants.{BadRecord, WrongNode, EpochLimit, Disk, Damaged, Full, Memory}
 use Rattle.vote_journal.specs.Epochs.{epochs_rise}
-use Rattle.vote_journal.specs.Spelling.{changes_bytes, first_bytes}
-use Rattle.vote_journal.specs.Grammar.{changes_of, first_of}
+use Rattle.vote_journal.specs.Spelling.{record_bytes, first_bytes}
+use Rattle.vote_journal.specs.Grammar.{is_newer, changes_of, first_of}
 
 -- ---- what records stand for
 
@@ -34,12 +34,16 @@ abbrev pub with_changes : ℕ → State → Result (List Change) CodecFault → 
 with_changes at s (Err fault) = Err (BadRecord at)
 with_changes at s (Ok changes) = if epochs_rise s.epoch changes then Ok (taken changes s) else Err (BadRecord at)
 
+-- the same of a record behind one of format 2, or behind one of format 1: none of format 1 stands behind one of format 2
+abbrev pub with_record : ℕ → Bool → State → List ℕ → Result State OpenFault
+with_record at newer s r = if is_newer r || not newer then with_changes at s (changes_of r) else Err (BadRecord at)
+
 -- and once the records from a place on were taken
-abbrev pub with_records : ℕ → State → List (List ℕ) → Result State OpenFault
-with_records at s [] = Ok s
-with_records at s (r ∷ rs) = do
-  next ← with_changes at s (changes_of r)
-  with_records (at + (5 + length r)) next rs
+abbrev pub with_records : ℕ → Bool → State → List (List ℕ) → Result State OpenFault
+with_records at newer s [] = Ok s
+with_records at newer s (r ∷ rs) = do
+  next ← with_record at newer s r
+  with_records (at + (5 + length r)) (is_newer r) next rs
 
 -- the state that a first record of a node's journal makes
 abbrev pub first_state : NodeId → Result First CodecFault → Result State OpenFault
@@ -53,7 +57,7 @@ abbrev pub state_of : NodeId → List (List ℕ) → Result State OpenFault
 state_of id [] = Ok nothing_kept
 state_of id (r ∷ rs) = do
   s ← first_state id (first_of r)
-  with_records (16 + (5 + length r)) s rs
+  with_records (16 + (5 + length r)) (is_newer r) s rs
 
 -- the change that an opening makes of a state
 abbrev pub next_epoch : State → List Change
@@ -62,7 +66,7 @@ next_epoch s = Epoch (s.epoch + 1) ∷ []
 -- the record of an opening: the first one where there is none
 abbrev pub record_of : NodeId → List (List ℕ) → List Change → List ℕ
 record_of id [] changes = first_bytes id changes
-record_of id (r ∷ rs) changes = changes_bytes changes
+record_of id (r ∷ rs) changes = record_bytes changes
 
 abbrev pub epoch_record : NodeId → List (List ℕ) → State → List ℕ
 epoch_record id records s = record_of id records (next_epoch s)
@@ -100,17 +104,17 @@ pub record BeforeOrAfter (id : NodeId) (old new : State) (before image : Areas) 
 -- a list without changes makes none
 abbrev pub record_calls : Journal → List Change → List Call
 record_calls j [] = []
-record_calls j (c ∷ cs) = append_calls j.log (changes_bytes (c ∷ cs))
+record_calls j (c ∷ cs) = append_calls j.log (record_bytes (c ∷ cs))
 
 -- the journal with these changes more
 abbrev pub recorded : Journal → List Change → Journal
 recorded j [] = j
-recorded j (c ∷ cs) = record j { log = appended j.log (changes_bytes (c ∷ cs)); state = taken (c ∷ cs) j.state }
+recorded j (c ∷ cs) = record j { log = appended j.log (record_bytes (c ∷ cs)); state = taken (c ∷ cs) j.state }
 
 -- how long the area is with a record of these changes; a list without changes has none
 abbrev pub recorded_end : Journal → List Change → ℕ
 recorded_end j [] = j.log.end
-recorded_end j (c ∷ cs) = j.log.end + (5 + length (changes_bytes (c ∷ cs)))
+recorded_end j (c ∷ cs) = j.log.end + (5 + length (record_bytes (c ∷ cs)))
 
 -- the record of a compaction
 abbrev pub compact_record : Journal → List ℕ

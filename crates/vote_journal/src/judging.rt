@@ -6,9 +6,10 @@ ghost use Rattle.std.specs.List.{AllByRecursion};
 ghost use Rattle.gate_log.specs.Records.{room};
 ghost use Rattle.vote_state.specs.Valid.{IsChange};
 ghost use Rattle.vote_journal.specs.Faults.{Says, refused_at};
-ghost use Rattle.vote_journal.specs.Journal.{state_of, with_records, with_changes, first_state};
-ghost use Rattle.vote_journal.specs.Grammar.{changes_of, first_of};
+ghost use Rattle.vote_journal.specs.Journal.{state_of, with_records, with_record, with_changes, first_state};
+ghost use Rattle.vote_journal.specs.Grammar.{is_newer, first_of};
 
+use crate::record_reading::is_second;
 use crate::{OpenFault, do_epochs_rise, read_changes, read_first};
 use command_codec::CodecFault;
 use mrp_types::{NodeId, Octets};
@@ -25,7 +26,8 @@ pub fn judge(alloc: Global, id: NodeId, records: &[Octets]) -> Result<Durable, O
         return Ok(Durable::new(alloc));
     };
     let state = take_first(alloc, id, first.bytes())?;
-    take_rest(alloc, state, 16 + size(first), rest)
+    let newer = is_second(first.bytes());
+    take_rest(alloc, state, 16 + size(first), newer, rest)
 }
 
 /// How many bytes a record takes in its area.
@@ -51,30 +53,43 @@ fn take_first(alloc: Global, id: NodeId, bytes: &[u8]) -> Result<Durable, OpenFa
     Ok(state)
 }
 
-/// The state once the records from a place on were taken.
+/// The state once the records from a place on were taken, behind one of format 2 or of format 1.
 fn take_rest(
     alloc: Global,
     state: Durable,
     at: u64,
+    newer: bool,
     records: &[Octets],
 ) -> Result<Durable, OpenFault>
     requires { at + room records.now < 2 ^ 63 }
-    ensures state { Says (with_records at state records.now) result }
+    ensures state { Says (with_records at newer state records.now) result }
     ensures bytes { IsErrOf result Disk → ⊥ }
 {
     let mut state = state;
     let mut at = at;
+    let mut newer = newer;
     for bytes in records {
-        state = take_record(alloc, state, at, bytes.bytes())?;
+        state = take_record(alloc, state, at, newer, bytes.bytes())?;
         at += size(bytes);
+        newer = is_second(bytes.bytes());
     }
     Ok(state)
 }
 
-fn take_record(alloc: Global, state: Durable, at: u64, bytes: &[u8]) -> Result<Durable, OpenFault>
-    ensures state { Says (with_changes at state (changes_of bytes.now)) result }
+/// A record of format 1 doesn't stand behind one of format 2.
+fn take_record(
+    alloc: Global,
+    state: Durable,
+    at: u64,
+    newer: bool,
+    bytes: &[u8],
+) -> Result<Durable, OpenFault>
+    ensures state { Says (with_record at newer state bytes.now) result }
     ensures bytes { IsErrOf result Disk → ⊥ }
 {
+    if newer && !is_second(bytes) {
+        return Err(OpenFault::BadRecord(at));
+    }
     let changes = match read_changes(alloc, bytes) {
         Ok(changes) => changes,
         Err(fault) => return Err(refusal(fault, at)),

@@ -2,8 +2,8 @@
 //! each moment a crash leaves the state before or after.
 //!
 //! `specs/Journal.antt` has the state that records stand for and the calls of each operation. Each list of changes has
-//! one spelling as a record: `specs/Spelling.antt` has the spellings as functions of the value, `specs/Grammar.antt`
-//! the reading, field by field from the left.
+//! one spelling as a record of format 2, which is written, and one of format 1, which is only read: `specs/Spelling.antt`
+//! has the spellings as functions of the value, `specs/Grammar.antt` the reading, field by field from the left.
 #![tactic(auto)]
 
 mod compacting;

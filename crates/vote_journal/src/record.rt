@@ -1,7 +1,7 @@
 //! Records of changes, written.
-ghost use Rattle.std.specs.Prelude.{◌≡◌, ◌++◌, ◌∷◌, [], IfOk, OnOk};
+ghost use Rattle.std.specs.Prelude.{◌≡◌, ◌+◌, ◌<◌, ◌^◌, ◌++◌, ◌∷◌, [], length, IfOk, OnOk};
 ghost use Rattle.std.specs.List.{AllByRecursion};
-ghost use Rattle.vote_journal.specs.Spelling.{vote_bytes, change_bytes, changes_bytes, first_bytes};
+ghost use Rattle.vote_journal.specs.Spelling.{vote_bytes, change_bytes, changes_bytes, record_bytes, first_bytes};
 ghost use Rattle.vote_state.specs.Valid.{IsChange};
 ghost use Rattle.command_codec.specs.Parts.{IsSpelled};
 
@@ -17,26 +17,45 @@ pub struct First {
     pub changes: Changes,
 }
 
-/// The one spelling of a record of these changes.
+/// A record of these changes, in format 2. One of 2^32 - 1 changes or more, which no area has room for, is answered as a
+/// want of memory.
 pub fn write_changes(alloc: Global, changes: &Changes) -> Result<Octets, Memory>
     requires { AllByRecursion IsChange changes.now }
-    ensures { IfOk result (λ bytes. bytes ≡ changes_bytes changes.now) }
+    ensures bytes { IfOk result (λ bytes. bytes ≡ record_bytes changes.now) }
+    ensures count { OnOk result (length changes.now < 2 ^ 32) }
 {
+    let count = count(changes.items())?;
     let mut out = Octets::new(alloc);
+    put_u8(&mut out, 6)?;
+    put_u32(&mut out, count)?;
     put_changes(&mut out, changes.items())?;
     Ok(out)
 }
 
-/// The one spelling of a first record.
+/// A first record of a node's journal, in format 2, with the same limit.
 pub fn write_first(alloc: Global, node: NodeId, changes: &Changes) -> Result<Octets, Memory>
     requires { AllByRecursion IsChange changes.now }
-    ensures { IfOk result (λ bytes. bytes ≡ first_bytes node changes.now) }
+    ensures bytes { IfOk result (λ bytes. bytes ≡ first_bytes node changes.now) }
+    ensures count { OnOk result (length changes.now + 1 < 2 ^ 32) }
 {
+    let count = count(changes.items())?;
     let mut out = Octets::new(alloc);
+    put_u8(&mut out, 6)?;
+    put_u32(&mut out, count + 1)?;
     put_u8(&mut out, 5)?;
     put_u8(&mut out, node.0)?;
     put_changes(&mut out, changes.items())?;
     Ok(out)
+}
+
+/// How many changes there are, where one more can still be counted.
+fn count(changes: &[Change]) -> Result<u32, Memory>
+    ensures { IfOk result (λ n. (n ≡ length changes.now) × (n + 1 < 2 ^ 32)) }
+{
+    match u32::try_from(changes.len()) {
+        Ok(count) if count < u32::MAX => Ok(count),
+        _ => Err(Memory),
+    }
 }
 
 fn put_changes(out: &mut Octets, changes: &[Change]) -> Result<(), Memory>

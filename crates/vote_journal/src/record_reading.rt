@@ -1,12 +1,12 @@
 //! Records of changes, read.
-ghost use Rattle.std.specs.Prelude.{◌≡◌, List, Ok, IfOk};
+ghost use Rattle.std.specs.Prelude.{◌≡◌, ◌+◌, List, length, Ok, IfOk};
 ghost use Rattle.std.specs.List.{AllByRecursion};
 ghost use Rattle.command_codec.specs.Reader.{Reads, Says};
 ghost use Rattle.vote_state.specs.declared.change.Change.{Change};
 ghost use Rattle.vote_journal.specs.declared.record.First.{First};
-ghost use Rattle.vote_journal.specs.Spelling.{changes_bytes, first_bytes, IsFirst, is_epoch_first};
+ghost use Rattle.vote_journal.specs.Spelling.{changes_bytes, named_bytes, IsRecord, IsFirst, is_epoch_first};
 ghost use Rattle.vote_state.specs.Valid.{IsChange};
-ghost use Rattle.vote_journal.specs.Grammar.{changes_of, first_of, first_at, changes_at, change_at, change_of_kind, epoch_at, promise_at, vote_at, trim_at};
+ghost use Rattle.vote_journal.specs.Grammar.{is_newer, is_count, in_format, changes_of, first_of, first_size, first_at, changes_at, change_at, change_of_kind, epoch_at, promise_at, vote_at, trim_at};
 
 use crate::First;
 use command_codec::CodecFault;
@@ -16,12 +16,12 @@ use mrp_types::{NodeId, Voted};
 use std::alloc::Global;
 use vote_state::{Change, Changes};
 
-/// The changes of a record that isn't the first, of all of its bytes.
+/// The changes of a record that isn't the first, of all of its bytes, in either format.
 pub fn read_changes(alloc: Global, bytes: &[u8]) -> Result<Changes, CodecFault>
     // What is read is spelled so, and has a spelling.
-    ensures found { IfOk result (λ changes. (bytes.now ≡ changes_bytes changes) × AllByRecursion IsChange changes) }
+    ensures found { IfOk result (λ changes. IsRecord (length changes) (changes_bytes changes) bytes.now × AllByRecursion IsChange changes) }
     // What is spelled so is read, unless memory runs out.
-    ensures only { (changes : List Change) → AllByRecursion IsChange changes → bytes.now ≡ changes_bytes changes → Says (λ c. c) (Ok changes) result }
+    ensures only { (changes : List Change) → AllByRecursion IsChange changes → IsRecord (length changes) (changes_bytes changes) bytes.now → Says (λ c. c) (Ok changes) result }
     ensures exact { Says (λ c. c) (changes_of bytes.now) result }
 {
     read_all(alloc, bytes)
@@ -31,9 +31,44 @@ fn read_all(alloc: Global, bytes: &[u8]) -> Result<Changes, CodecFault>
     ensures { Says (λ c. c) (changes_of bytes.now) result }
 {
     let mut fields = Cursor::new(bytes);
-    let changes = read_each(alloc, &mut fields, bytes.len())?;
+    let changes = read_record(alloc, &mut fields, bytes.len(), is_second(bytes))?;
     fields.end()?;
     Ok(changes)
+}
+
+/// Whether the bytes of a record begin as format 2 does.
+pub fn is_second(bytes: &[u8]) -> bool
+    ensures { result ≡ is_newer bytes.now }
+{
+    matches!(bytes, [6, ..])
+}
+
+#[tactic(auto, unfolding(crate::specs::Grammar::numbered_at))]
+fn read_record(
+    alloc: Global,
+    fields: &mut Cursor<'_>,
+    most: usize,
+    newer: bool,
+) -> Result<Changes, CodecFault>
+    ensures { Reads (λ c. c) (in_format newer (λ (changes : List Change). length changes) (changes_at most) fields.old) result fields.new }
+{
+    if !newer {
+        return read_each(alloc, fields, most);
+    }
+    fields.byte()?;
+    let at = fields.at();
+    let count = fields.u32()?;
+    let changes = read_each(alloc, fields, most)?;
+    if !counts(count, changes.items().len()) {
+        return Err(CodecFault::BadField(at));
+    }
+    Ok(changes)
+}
+
+fn counts(count: u32, size: usize) -> bool
+    ensures { result ≡ is_count count size }
+{
+    0 < count && size == count as usize
 }
 
 /// Changes until nothing is left, at most so many.
@@ -119,12 +154,12 @@ fn read_trim(fields: &mut Cursor<'_>) -> Result<Change, CodecFault>
     Ok(Change::Trim(ring, inst))
 }
 
-/// A first record of all of the bytes: the node, and its changes, of which the first is an epoch.
+/// A first record of all of the bytes, in either format: the node, and its changes, of which the first is an epoch.
 pub fn read_first(alloc: Global, bytes: &[u8]) -> Result<First, CodecFault>
     // What is read is spelled so, and has a spelling.
-    ensures found { IfOk result (λ first. (bytes.now ≡ first_bytes first.node first.changes) × IsFirst first) }
+    ensures found { IfOk result (λ first. IsRecord (first_size first) (named_bytes first.node first.changes) bytes.now × IsFirst first) }
     // What is spelled so is read, unless memory runs out.
-    ensures only { (first : First) → IsFirst first → bytes.now ≡ first_bytes first.node first.changes → Says (λ f. f) (Ok first) result }
+    ensures only { (first : First) → IsFirst first → IsRecord (first_size first) (named_bytes first.node first.changes) bytes.now → Says (λ f. f) (Ok first) result }
     ensures exact { Says (λ f. f) (first_of bytes.now) result }
 {
     read_all_of_first(alloc, bytes)
@@ -134,8 +169,30 @@ fn read_all_of_first(alloc: Global, bytes: &[u8]) -> Result<First, CodecFault>
     ensures { Says (λ f. f) (first_of bytes.now) result }
 {
     let mut fields = Cursor::new(bytes);
-    let first = read_one_first(alloc, &mut fields, bytes.len())?;
+    let first = read_first_record(alloc, &mut fields, bytes.len(), is_second(bytes))?;
     fields.end()?;
+    Ok(first)
+}
+
+#[tactic(auto, unfolding(crate::specs::Grammar::numbered_at))]
+fn read_first_record(
+    alloc: Global,
+    fields: &mut Cursor<'_>,
+    most: usize,
+    newer: bool,
+) -> Result<First, CodecFault>
+    ensures { Reads (λ f. f) (in_format newer first_size (first_at most) fields.old) result fields.new }
+{
+    if !newer {
+        return read_one_first(alloc, fields, most);
+    }
+    fields.byte()?;
+    let at = fields.at();
+    let count = fields.u32()?;
+    let first = read_one_first(alloc, fields, most)?;
+    if !counts(count, first.changes.items().len() + 1) {
+        return Err(CodecFault::BadField(at));
+    }
     Ok(first)
 }
 

@@ -6,7 +6,6 @@ use std::test::*;
 use vote_state::{Change, Changes};
 
 mod journals;
-mod spoilt;
 
 #[test]
 fn the_first_record_of_a_journal(rt: HostRuntime) -> Result<(), Fail> {
@@ -14,12 +13,32 @@ fn the_first_record_of_a_journal(rt: HostRuntime) -> Result<(), Fail> {
     let mut changes = Changes::new(alloc);
     changes.epoch(1)?;
     let bytes = write_first(alloc, NodeId(0), &changes)?;
-    assert_eq!(rt; bytes.bytes(), [5, 0, 1, 0, 0, 0, 1].as_slice());
+    assert_eq!(rt;
+        bytes.bytes(),
+        [6, 0, 0, 0, 2, 5, 0, 1, 0, 0, 0, 1].as_slice()
+    );
     let first = read_first(alloc, bytes.bytes())
         .ok()
         .ok_or("a first record")?;
     assert_eq!(rt; first.node, NodeId(0));
     assert_eq!(rt; first.changes.items().len(), 1);
+    Ok(())
+}
+
+#[test]
+fn records_of_both_formats(rt: HostRuntime) -> Result<(), Fail> {
+    for bytes in [
+        [5, 3, 1, 0, 0, 0, 9].as_slice(),
+        &[6, 0, 0, 0, 2, 5, 3, 1, 0, 0, 0, 9],
+    ] {
+        let first = read_first(rt.alloc(), bytes).ok().ok_or("a first record")?;
+        assert_eq!(rt; first.node, NodeId(3));
+        assert!(rt; matches!(first.changes.items(), [Change::Epoch(9)]));
+    }
+    for bytes in [[1, 0, 0, 0, 9].as_slice(), &[6, 0, 0, 0, 1, 1, 0, 0, 0, 9]] {
+        let read = read_changes(rt.alloc(), bytes).ok().ok_or("a record")?;
+        assert!(rt; matches!(read.items(), [Change::Epoch(9)]));
+    }
     Ok(())
 }
 
@@ -40,10 +59,10 @@ fn a_record_has_its_changes_in_order(rt: HostRuntime) -> Result<(), Fail> {
     )?;
     changes.trim(ring, 7)?;
     let bytes = write_changes(alloc, &changes)?;
-    // The promise, the vote and the trim.
+    // Three changes: the promise, the vote and the trim.
     let want = [
-        2, 15, 0, 0, 0, 0, 0, 0, 0, 3, 3, 15, 0, 0, 0, 0, 0, 0, 0, 3, 0, 0, 0, 0, 0, 0, 0, 0, 0, 0,
-        0, 0, 0, 1, 0, 0, 0, 1, 0, 4, 15, 0, 0, 0, 0, 0, 0, 0, 7,
+        6, 0, 0, 0, 3, 2, 15, 0, 0, 0, 0, 0, 0, 0, 3, 3, 15, 0, 0, 0, 0, 0, 0, 0, 3, 0, 0, 0, 0, 0,
+        0, 0, 0, 0, 0, 0, 0, 0, 1, 0, 0, 0, 1, 0, 4, 15, 0, 0, 0, 0, 0, 0, 0, 7,
     ];
     assert_eq!(rt; bytes.bytes(), want.as_slice());
     let read = read_changes(alloc, bytes.bytes()).ok().ok_or("a record")?;
@@ -72,7 +91,7 @@ fn faults_of_records(rt: HostRuntime) {
     let no_value = [
         3, 0, 0, 0, 0, 0, 0, 0, 0, 3, 0, 0, 0, 0, 0, 0, 0, 5, 0, 0, 0, 0, 0, 0, 0, 6, 0, 1, 9,
     ];
-    let rows: [(&[u8], CodecFault); 9] = [
+    let rows: [(&[u8], CodecFault); 14] = [
         (&no_ring, CodecFault::BadField(1)),
         (&great_ballot, CodecFault::BadField(2)),
         (&great_inst, CodecFault::BadField(2)),
@@ -82,6 +101,15 @@ fn faults_of_records(rt: HostRuntime) {
         (&[0], CodecFault::BadKind(0)),
         (&[1, 0, 0, 0], CodecFault::Short(1)),
         (&[1, 0, 0, 0, 1, 1], CodecFault::Short(6)),
+        // In format 2: no change, a number that is cut, another number than there are changes, and a byte left over.
+        (&[6, 0, 0, 0, 0], CodecFault::BadField(1)),
+        (&[6, 0, 0, 0], CodecFault::Short(1)),
+        (&[6, 0, 0, 0, 2, 1, 0, 0, 0, 1], CodecFault::BadField(1)),
+        (
+            &[6, 0, 0, 0, 1, 1, 0, 0, 0, 1, 1, 0, 0, 0, 2],
+            CodecFault::BadField(1),
+        ),
+        (&[6, 0, 0, 0, 1, 1, 0, 0, 0, 1, 0], CodecFault::BadKind(10)),
     ];
     for (bytes, want) in rows {
         match read_changes(rt.alloc(), bytes) {
@@ -113,8 +141,14 @@ fn a_batch_has_one_instance(rt: HostRuntime) {
 #[test]
 fn faults_of_first_records(rt: HostRuntime) {
     let promise = [5, 3, 2, 0, 0, 0, 0, 0, 0, 0, 0, 1];
-    let rows: [(&[u8], CodecFault); 5] = [
+    let rows: [(&[u8], CodecFault); 7] = [
         (&[], CodecFault::Short(0)),
+        // The node is one of the changes that are counted.
+        (
+            &[6, 0, 0, 0, 1, 5, 3, 1, 0, 0, 0, 1],
+            CodecFault::BadField(1),
+        ),
+        (&[6, 0, 0, 0, 1, 1, 0, 0, 0, 1], CodecFault::BadKind(5)),
         (&[1, 0, 0, 0, 1], CodecFault::BadKind(0)),
         (&[5], CodecFault::Short(1)),
         (&[5, 3], CodecFault::BadField(2)),

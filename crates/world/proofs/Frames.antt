@@ -1,8 +1,6 @@
 -- Frames of the world have a spelling.
-use Rattle.std.proofs.Common.{lit≤, arith, ◌≡◌, ◌<◌, ◌≤◌, ℕ, ◌+◌, ◌^◌, List, [], ◌∷◌, length, refl, ap, length-append, map}
-use Rattle.std.proofs.lemmas.Grind.{common_steps}
+use Rattle.std.proofs.Common.{lit≤, arith, ◌≡◌, ◌<◌, ◌≤◌, ℕ, ◌+◌, ◌^◌, List, [], ◌∷◌, length, refl, ap}
 use Rattle.mrp_types.specs.declared.id.NodeId.{NodeId}
-use Rattle.mrp_types.specs.declared.id.LogId.{LogId}
 use Rattle.mrp_types.specs.declared.id.ClientId.{ClientId}
 use Rattle.mrp_types.specs.declared.id.Party.TheVariants.{Node, Client}
 use Rattle.mrp_types.specs.declared.id.TheConstants.{END}
@@ -11,8 +9,6 @@ use Rattle.mrp_types.specs.declared.value.Value.TheVariants.{Batch}
 use Rattle.mrp_types.specs.declared.value.Entry.{Entry}
 use Rattle.mrp_types.specs.Entries.{IsEntry}
 use Rattle.command_codec.specs.declared.command.Command.{Command}
-use Rattle.command_codec.specs.declared.command.Command.TheVariants.{Append, Multi, ReadLog, TrimLog, Get, Scan, Update, Insert, Delete}
-use Rattle.command_codec.specs.Fields.{string16}
 use Rattle.command_codec.specs.Grammar.{batch_at}
 use Rattle.command_codec.specs.Parts.{IsSpelled, was_read}
 use Rattle.command_codec.specs.Spelling.{command_bytes, batch_bytes, AreEntries}
@@ -20,7 +16,7 @@ use Rattle.command_codec.specs.Valid.{IsCommand}
 use Rattle.command_codec.proofs.BatchLaws.{batch_law}
 use Rattle.command_codec.proofs.Combined.{whole_again}
 use Rattle.command_codec.proofs.PartLaws.{value_short}
-use Rattle.command_codec.proofs.Sizes.{length-u64_bytes, length-string16, length-batch_of_one}
+use Rattle.command_codec.proofs.Sizes.{short_command, length-batch_of_one}
 use Rattle.mrp_config.specs.declared.tables.RingTable.{RingTable}
 use Rattle.frames.specs.declared.body.Body.TheVariants.{Submit, Accept, Decide}
 use Rattle.frames.specs.Valid.{IsFrame}
@@ -51,39 +47,12 @@ valid_decide ring node inst left value is low room spelled =
 
 -- ---- commands
 
--- what has a spelling fits a frame
-short_command : (command : Command) → IsCommand command → length (command_bytes command) ≤ 4096
-short_command (Append log value) is = let fits : length value ≤ 2048 = is.1 in grind (arith, common_steps, length-string16 value)
-short_command (Multi logs value) is =
-    let fits : length value ≤ 2048 = is.1 in
-    let few : length logs ≤ 64 = is.0.1 in
-    omega (arith, multi_length logs value, fits, few)
-  where
-    multi_length : (logs : List LogId) (value : List ℕ) → length (command_bytes (Multi logs value)) ≡ length logs + length value + 4
-    multi_length logs value = grind (arith, common_steps, length-append (map (λ (log : LogId). log.0) logs) (string16 value), length-string16 value)
-short_command (ReadLog log position) is = grind (arith, common_steps, length-u64_bytes position)
-short_command (TrimLog log position) is = grind (arith, common_steps, length-u64_bytes position)
-short_command (Get key) is = let fits : length key ≤ 256 = is.1 in grind (arith, common_steps, length-string16 key)
-short_command (Scan from to) is =
-    let first : length from ≤ 256 = is.0 in
-    let second : length to ≤ 256 = is.1 in
-    grind (arith, common_steps, length-append (string16 from) (string16 to), length-string16 from, length-string16 to)
-short_command (Update key value) is =
-    let first : length key ≤ 256 = is.0.1 in
-    let second : length value ≤ 2048 = is.1 in
-    grind (arith, common_steps, length-append (string16 key) (string16 value), length-string16 key, length-string16 value)
-short_command (Insert key value) is =
-    let first : length key ≤ 256 = is.0.1 in
-    let second : length value ≤ 2048 = is.1 in
-    grind (arith, common_steps, length-append (string16 key) (string16 value), length-string16 key, length-string16 value)
-short_command (Delete key) is = let fits : length key ≤ 256 = is.1 in grind (arith, common_steps, length-string16 key)
-
 pub valid_submit : (ring : RingTable) (client : ClientId) (seq : ℕ) (command : Command) (bytes : List ℕ) → IsRing ring → 1 ≤ seq → seq < 2 ^ 63 → IsCommand command →
     bytes ≡ command_bytes command →
     IsFrame (record { from = Client client; body = Submit ring.id 0 client seq bytes })
 valid_submit ring client seq command bytes is some fits spelled same =
     let body = Submit ring.id 0 client seq bytes in
-    let short : length bytes ≤ 4096 = rw same (short_command command spelled) in
+    let short : length bytes ≤ 4608 = rw same (short_command command spelled) in
     record {
       from = refl;
       body = (is.id, lit≤ tt, some, fits, short);

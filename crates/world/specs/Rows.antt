@@ -15,7 +15,7 @@ node n = record { 0 = n }
 
 -- a ring with these acceptors
 abbrev pub ring_of : ℕ → List NodeId → RingTable
-ring_of id acceptors = record { id = record { 0 = id }; acceptors = acceptors }
+ring_of id acceptors = record { id = record { 0 = id }; acceptors = acceptors; m = 1 }
 
 abbrev pub three : RingTable
 three = ring_of 0 (node 0 ∷ node 1 ∷ node 2 ∷ [])
@@ -69,7 +69,7 @@ listed = ask 0 (104 ∷ 105 ∷ []) ∷ event.Flow 2 ∷ event.List 2 ∷ event.
 
 -- a Decide of ring 0 from node 1, of the range 0 to 1, to be passed on once, before its value
 abbrev pub decide_head : List ℕ
-decide_head = 0x4d ∷ 0x52 ∷ 1 ∷ 6 ∷ 0 ∷ 1 ∷ 0 ∷ 0 ∷ 0 ∷ 0 ∷ 0 ∷ 0 ∷ 0 ∷ 0 ∷ 0 ∷ 0 ∷ 0 ∷ 0 ∷ 0 ∷ 0 ∷ 0 ∷ 0 ∷ 1 ∷ 1 ∷ 0 ∷ 20 ∷ []
+decide_head = 0x4d ∷ 0x52 ∷ 2 ∷ 6 ∷ 0 ∷ 1 ∷ 0 ∷ 0 ∷ 0 ∷ 0 ∷ 0 ∷ 0 ∷ 0 ∷ 0 ∷ 0 ∷ 0 ∷ 0 ∷ 0 ∷ 0 ∷ 0 ∷ 0 ∷ 0 ∷ 1 ∷ 1 ∷ 0 ∷ 20 ∷ []
 
 abbrev pub listed_lines : List Line
 listed_lines = learn 1 0 hi ∷ deliver 1 0 ∷ Frame 2 (Some (record { from = Node (node 1); to = Node (node 2); bytes = decide_head ++ hi })) ∷ Frame 9 None ∷ End 4 ∷ []

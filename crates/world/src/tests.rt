@@ -145,7 +145,7 @@ fn three_acceptors(rt: HostRuntime) -> Result<(), Fail> {
         "learn 1 0 1 2 {BATCH_B}\nlearn 1 0 0 1 {BATCH_A}\ndeliver 1 0 0\ndeliver 1 0 1\n"
     )?;
     let listed = format!(in alloc;
-        "learn 1 0 0 1 {V}\ndeliver 1 0 0\nframe 2 n1 n2 4d52010600010000000000000000000000000000000001010014{V}\nframe 9 none\n"
+        "learn 1 0 0 1 {V}\ndeliver 1 0 0\nframe 2 n1 n2 4d52020600010000000000000000000000000000000001010014{V}\nframe 9 none\n"
     )?;
     // What happens, what is printed, and how many frames are sent.
     let rows: [(&[Happens<'_>], &str, u64); 6] = [
@@ -215,9 +215,9 @@ fn commands_of_several_clients(rt: HostRuntime) -> Result<(), Fail> {
             List(2),
         ],
     )?;
-    let want = "frame 0 c0 n7 4d520101010003000000000000000000010006010000026869\n\
-        frame 1 c255 n7 4d52010101ff0300ff0000000000000001000401000000\n\
-        frame 2 c0 n7 4d520101010003000000000000000000020006010000026869\n";
+    let want = "frame 0 c0 n7 4d520201010003000000000000000000010006010000026869\n\
+        frame 1 c255 n7 4d52020101ff0300ff0000000000000001000401000000\n\
+        frame 2 c0 n7 4d520201010003000000000000000000020006010000026869\n";
     assert_eq!(rt; str::from_utf8(text.bytes()), Ok(want));
     // The first command is lost, and the second takes the first instance.
     let (text, sent) = lines_of(

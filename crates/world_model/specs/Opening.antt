@@ -20,7 +20,7 @@ use Rattle.mrp_config.specs.declared.tables.PartitionTable.{PartitionTable}
 use Rattle.plain_model.specs.Replicas.{Replica}
 use Rattle.plain_model.specs.StateBytes.{whole_state, fault_position}
 use Rattle.plain_model.specs.Tuples.{round_sizes, is_tuple_of}
-use Rattle.checkpoint.specs.Checks.{Checks, Checkpoint, checks_of, place}
+use Rattle.checkpoint.specs.Checkpoints.{Checkpoints, Checkpoint, checkpoints_of, place}
 use Rattle.protocol.specs.Lines.{Cause, Disk, Full}
 use Rattle.protocol.specs.Opening.{partition_of}
 use Rattle.world_model.specs.Disks.{Op, Reads, Does}
@@ -91,35 +91,35 @@ opened_journal id (Err cause) = record { work = []; result = Err cause }
 -- ---- the checkpoint
 
 -- a state that is at fault, by where it begins
-abbrev pub judged_state : Area × ℕ × ℕ → Checks → Result Replica CodecFault → Result Checks (Area × ℕ)
-judged_state place checks (Ok replica) = Ok checks
-judged_state place checks (Err fault) = Err (place.0, place.2 + fault_position fault)
+abbrev pub judged_state : Area × ℕ × ℕ → Checkpoints → Result Replica CodecFault → Result Checkpoints (Area × ℕ)
+judged_state place checkpoints (Ok replica) = Ok checkpoints
+judged_state place checkpoints (Err fault) = Err (place.0, place.2 + fault_position fault)
 
-abbrev pub judged_newest : Config → PartitionTable → Checks → Option Checkpoint → Option (Area × ℕ × ℕ) → Result Checks (Area × ℕ)
-judged_newest config p checks None place = Ok checks
-judged_newest config p checks (Some newest) None = Ok checks
-judged_newest config p checks (Some newest) (Some place) =
-    if is_tuple_of (round_sizes config) p.rings newest.tuple then judged_state place checks (whole_state p newest.state) else Err (place.0, place.1)
+abbrev pub judged_newest : Config → PartitionTable → Checkpoints → Option Checkpoint → Option (Area × ℕ × ℕ) → Result Checkpoints (Area × ℕ)
+judged_newest config p checkpoints None place = Ok checkpoints
+judged_newest config p checkpoints (Some newest) None = Ok checkpoints
+judged_newest config p checkpoints (Some newest) (Some place) =
+    if is_tuple_of (round_sizes config) p.rings newest.tuple then judged_state place checkpoints (whole_state p newest.state) else Err (place.0, place.1)
 
 -- A replica's checkpoint is one of its partition: its tuple is a valid one there, and its bytes are a state. A node that is no
 -- replica asks neither.
-abbrev pub judged_for : Config → Option PartitionTable → Checks → Result Checks (Area × ℕ)
-judged_for config None checks = Ok checks
-judged_for config (Some p) checks = judged_newest config p checks checks.newest (place checks)
+abbrev pub judged_for : Config → Option PartitionTable → Checkpoints → Result Checkpoints (Area × ℕ)
+judged_for config None checkpoints = Ok checkpoints
+judged_for config (Some p) checkpoints = judged_newest config p checkpoints checkpoints.newest (place checkpoints)
 
-abbrev pub judged_checks : Config → NodeId → Result Checks (Area × ℕ) → Result Checks (Area × ℕ)
-judged_checks config id (Err spot) = Err spot
-judged_checks config id (Ok checks) = judged_for config (partition_of config.partitions id) checks
+abbrev pub judged_checkpoints : Config → NodeId → Result Checkpoints (Area × ℕ) → Result Checkpoints (Area × ℕ)
+judged_checkpoints config id (Err spot) = Err spot
+judged_checkpoints config id (Ok checkpoints) = judged_for config (partition_of config.partitions id) checkpoints
 
-abbrev pub found_checks : Result Checks (Area × ℕ) → Result Checks Cause
-found_checks (Ok checks) = Ok checks
-found_checks (Err spot) = Err Disk
+abbrev pub found_checkpoints : Result Checkpoints (Area × ℕ) → Result Checkpoints Cause
+found_checkpoints (Ok checkpoints) = Ok checkpoints
+found_checkpoints (Err spot) = Err Disk
 
 -- the survey, and what is read of the area that stands
-abbrev pub opened_checks : Config → NodeId → Areas → Result (Option (Area × ℕ)) (Area × ℕ) → Opening Checks
+abbrev pub opened_checks : Config → NodeId → Areas → Result (Option (Area × ℕ)) (Area × ℕ) → Opening Checkpoints
 opened_checks config id areas standing = record {
   work = survey ++ area_readings areas standing;
-  result = found_checks (judged_checks config id (checks_of areas standing));
+  result = found_checkpoints (judged_checkpoints config id (checkpoints_of areas standing));
 }
 
 -- ---- both
@@ -127,18 +127,18 @@ opened_checks config id areas standing = record {
 -- the journal and the checkpoints of a node that has opened
 pub record Kept : Type 0 where
   pub journal : Journal
-  pub checks : Checks
+  pub checkpoints : Checkpoints
 
-abbrev pub kept_of : Journal → Result Checks Cause → Result Kept Cause
-kept_of journal (Ok checks) = Ok (record { journal = journal; checks = checks })
+abbrev pub kept_of : Journal → Result Checkpoints Cause → Result Kept Cause
+kept_of journal (Ok checkpoints) = Ok (record { journal = journal; checkpoints = checkpoints })
 kept_of journal (Err cause) = Err cause
 
-abbrev pub with_checks_of : List Op → Journal → Opening Checks → Opening Kept
-with_checks_of before journal checks = record { work = before ++ checks.work; result = kept_of journal checks.result }
+abbrev pub with_checkpoints_of : List Op → Journal → Opening Checkpoints → Opening Kept
+with_checkpoints_of before journal checkpoints = record { work = before ++ checkpoints.work; result = kept_of journal checkpoints.result }
 
 -- the checkpoints are looked at where the journal has opened
 abbrev pub then_checks : Config → NodeId → List Op → Areas → List Op → Result Journal Cause → Opening Kept
-then_checks config id before areas work (Ok journal) = with_checks_of (before ++ work) journal (opened_checks config id areas (stands CheckPair areas))
+then_checks config id before areas work (Ok journal) = with_checkpoints_of (before ++ work) journal (opened_checks config id areas (stands CheckPair areas))
 then_checks config id before areas work (Err cause) = record { work = before ++ work; result = Err cause }
 
 abbrev pub then_opens : Config → NodeId → Areas → List Op → Opening Journal → Opening Kept

@@ -29,7 +29,7 @@ use Rattle.protocol.specs.Lines as line
 use Rattle.protocol.specs.Node.{View, Event, Ticks, Takes, Leads, Stepped, calls_of, is_full, state_shown}
 use Rattle.protocol.specs.Opening.{opened}
 use Rattle.protocol.specs.Step.{step}
-use Rattle.protocol.specs.Client.{ClientView, ClientDid, new_client, asks, client_ticks, client_takes}
+use Rattle.protocol.specs.Client.{ClientView, ClientEffects, new_client, asks, client_ticks, client_takes}
 use Rattle.world_model.specs.Disks.{Does, Ran, ran, cause_of, settled, no_plan, with_fuse, with_fail, with_fail_read, with_plan, restarted}
 use Rattle.world_model.specs.Opening.{Opening, Kept, opening}
 use Rattle.world_model.specs.Events.{ScheduleEvent}
@@ -71,8 +71,8 @@ and_then o more = after_lines o.lines (more o.world)
 
 -- one after another for each of a list
 abbrev pub for_each : {A : Type 0} → (A → World → Outcome) → List A → World → Outcome
-for_each does [] w = quiet w
-for_each does (x ∷ xs) w = and_then (does x w) (λ next. for_each does xs next)
+for_each applies_effects [] w = quiet w
+for_each applies_effects (x ∷ xs) w = and_then (applies_effects x w) (λ next. for_each applies_effects xs next)
 
 -- ---- nodes and clients by id
 
@@ -106,27 +106,27 @@ abbrev pub goes_down : NodeId → Sim → Cause → World → Outcome
 goes_down id disk cause w = prints (line.Down id cause ∷ []) (with_node id (Down disk.told no_plan) w)
 
 -- the node is up with its new view; its frames are sent and its lines printed
-abbrev pub goes_on : NodeId → List Line → Stepped → List Call → Sim → World → Outcome
-goes_on id before did calls disk w = prints (before ++ did.lines) (sends did.frames (with_node id (Up did.view (settled calls disk)) w))
+abbrev pub after_step : NodeId → List Line → Stepped → List Call → Sim → World → Outcome
+after_step id before made calls disk w = prints (before ++ made.lines) (sends made.frames (with_node id (Up made.view (settled calls disk)) w))
 
 -- Where the work failed the node's frames aren't sent and its lines aren't printed.
 abbrev pub worked : NodeId → Stepped → List Call → Sim → Bool → World → Outcome
-worked id did calls disk true w = goes_on id [] did calls disk w
-worked id did calls disk false w = goes_down id disk (cause_of disk) w
+worked id made calls disk true w = after_step id [] made calls disk w
+worked id made calls disk false w = goes_down id disk (cause_of disk) w
 
 abbrev pub worked_by : NodeId → Stepped → List Call → Ran → World → Outcome
-worked_by id did calls now w = worked id did calls now.disk now.done w
+worked_by id made calls now w = worked id made calls now.disk now.done w
 
 abbrev pub works : NodeId → Stepped → List Call → Sim → World → Outcome
-works id did calls disk w = worked_by id did calls (ran (map Does calls) disk) w
+works id made calls disk w = worked_by id made calls (ran (map Does calls) disk) w
 
 -- where the record wouldn't fit, no call is made
 abbrev pub unless_full : NodeId → View → Stepped → Sim → Bool → World → Outcome
-unless_full id view did disk true w = goes_down id disk Full w
-unless_full id view did disk false w = works id did (calls_of view did.work disk.told) disk w
+unless_full id view made disk true w = goes_down id disk Full w
+unless_full id view made disk false w = works id made (calls_of view made.work disk.told) disk w
 
 abbrev pub stepped_as : NodeId → View → Sim → Stepped → World → Outcome
-stepped_as id view disk did w = unless_full id view did disk (is_full view did.work) w
+stepped_as id view disk made w = unless_full id view made disk (is_full view made.work) w
 
 -- one event at a node that is up; one that is down does nothing
 abbrev pub steps_as : Config → NodeId → Event → Option Host → World → Outcome
@@ -143,7 +143,7 @@ steps config event id w = steps_as config id event (node_at w id) w
 abbrev pub opened_as : Config → NodeId → List Call → Sim → Result Kept Cause → World → Outcome
 opened_as config id calls disk (Err cause) w = goes_down id disk cause w
 opened_as config id calls disk (Ok kept) w =
-    goes_on id (line.Up id kept.journal.state.epoch ∷ []) (opened config id kept.journal kept.checks) calls disk w
+    after_step id (line.Up id kept.journal.state.epoch ∷ []) (opened config id kept.journal kept.checkpoints) calls disk w
 
 abbrev pub opened_where : Config → NodeId → Result Kept Cause → Sim → Bool → World → Outcome
 opened_where config id result disk true w = opened_as config id disk.told.calls disk result w
@@ -161,12 +161,12 @@ opens config id disk w = opens_by config id disk (opening config id (reads disk.
 
 -- ---- frames
 
-abbrev pub client_does : ClientId → ClientDid → World → Outcome
-client_does id did w = prints did.lines (sends did.frames (with_client id did.client w))
+abbrev pub client_step : ClientId → ClientEffects → World → Outcome
+client_step id made w = prints made.lines (sends made.frames (with_client id made.client w))
 
 abbrev pub client_gets : Config → ClientId → Body → Option ClientView → World → Outcome
 client_gets config id body None w = quiet w
-client_gets config id body (Some view) w = client_does id (client_takes config view body) w
+client_gets config id body (Some view) w = client_step id (client_takes config view body) w
 
 -- a frame comes to its receiver; to a node that is down it is lost
 abbrev pub delivers_to : Config → Party → Sent → World → Outcome
@@ -202,14 +202,14 @@ lists number w = prints (line.Frame number (option_map shown_of (slice_get w.fra
 
 abbrev pub client_asks : Config → ClientId → Command → Option ClientView → World → Outcome
 client_asks config id command None w = quiet w
-client_asks config id command (Some view) w = client_does id (asks config view command) w
+client_asks config id command (Some view) w = client_step id (asks config view command) w
 
-abbrev pub client_does_tick : Config → ClientId → Option ClientView → World → Outcome
-client_does_tick config id None w = quiet w
-client_does_tick config id (Some view) w = client_does id (client_ticks config view) w
+abbrev pub client_step_tick : Config → ClientId → Option ClientView → World → Outcome
+client_step_tick config id None w = quiet w
+client_step_tick config id (Some view) w = client_step id (client_ticks config view) w
 
 abbrev pub ticks_client : Config → ClientId → World → Outcome
-ticks_client config id w = client_does_tick config id (client_at w id) w
+ticks_client config id w = client_step_tick config id (client_at w id) w
 
 -- ---- ticks of all
 

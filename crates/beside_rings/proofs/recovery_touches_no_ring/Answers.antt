@@ -1,4 +1,4 @@
-use Rattle.beside_rings.proofs.Recovered.{untouched_begins, untouched_answered, untouched_part, untouched_gone, untouched_recovery, untouched_behind}
+use Rattle.beside_rings.proofs.Recovered.{untouched_begins, untouched_answered, untouched_part, untouched_gone, untouched_recovery, untouched_recovers_if_trimmed}
 use Rattle.beside_rings.proofs.recovery_touches_no_ring.Goals as goal
 
 pub returns-clause-begin : goal.returns-clause-begin
@@ -16,5 +16,5 @@ returns-clause-gone c = untouched_gone
 pub returns-clause-tick : goal.returns-clause-tick
 returns-clause-tick c = untouched_recovery
 
-pub returns-clause-behind : goal.returns-clause-behind
-returns-clause-behind c = untouched_behind
+pub returns-clause-recovers_if_trimmed : goal.returns-clause-recovers_if_trimmed
+returns-clause-recovers_if_trimmed c = untouched_recovers_if_trimmed

@@ -13,7 +13,7 @@ use Rattle.protocol.specs.Client.{asks, client_ticks, replied, client_takes}
 use Rattle.protocol.specs.Coordinator.{leads, promised, refused, submits}
 use Rattle.protocol.specs.Leading.{starts_on_tick, resends, levels}
 use Rattle.protocol.specs.Learner.{are_all_held, met_over, gap_after, learns, decided, chosen}
-use Rattle.protocol.specs.Learning.{does}
+use Rattle.protocol.specs.Learning.{applies_effects}
 use Rattle.protocol.specs.Merging.{merges}
 use Rattle.protocol.specs.Opening.{opened}
 use Rattle.protocol.specs.Proposing.{first_where, offers, proposing, proposes_after}
@@ -32,5 +32,5 @@ pub returns-clause-may : goal.returns-clause-may
 returns-clause-may c = may_happen
 
 pub returns-clause-lines : goal.returns-clause-lines
-unfolding u16_bytes command_codec_fields_u32_bytes command_codec_fields_u64_bytes append_at multi_at read_log_at trim_log_at get_at scan_at update_at insert_at delete_at command_of_kind command_at entry_at batch_at position_at positions_at table_entry_at entries_reply_at reply_of_kind command_codec_grammar_reply_at value_at bytes_at number_at within length_at string_that string_at is_concerned entries_below reply_after reply_to replica_of answer_of effect_of apply state_bytes kept_reply_at session_at_least this_log_at state_at whole_state prepares accepts fetches covered_to asks client_ticks replied client_takes leads promised refused submits starts_on_tick resends levels are_all_held met_over gap_after learns decided chosen does merges opened first_where offers proposing proposes_after restores chooses begins answered_by takes_part takes_gone members_of step ticks trimmed least asks_round answers spread_over quiet_after ranges_of are_held lib.Count.ones
+unfolding u16_bytes command_codec_fields_u32_bytes command_codec_fields_u64_bytes append_at multi_at read_log_at trim_log_at get_at scan_at update_at insert_at delete_at command_of_kind command_at entry_at batch_at position_at positions_at table_entry_at entries_reply_at reply_of_kind command_codec_grammar_reply_at value_at bytes_at number_at within length_at string_that string_at is_concerned entries_below reply_after reply_to replica_of answer_of effect_of apply state_bytes kept_reply_at session_at_least this_log_at state_at whole_state prepares accepts fetches covered_to asks client_ticks replied client_takes leads promised refused submits starts_on_tick resends levels are_all_held met_over gap_after learns decided chosen applies_effects merges opened first_where offers proposing proposes_after restores chooses begins answered_by takes_part takes_gone members_of step ticks trimmed least asks_round answers spread_over quiet_after ranges_of are_held lib.Count.ones
 returns-clause-lines c = refl

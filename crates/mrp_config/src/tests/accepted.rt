@@ -6,7 +6,7 @@ use std::test::*;
 
 fn shows_numbers(deployment: &Deployment, numbers: Numbers) -> bool {
     let shown = Numbers {
-        m: deployment.m(),
+        m: deployment.rounds().of(RingId(255)),
         lambda: deployment.lambda(),
         delta: deployment.delta(),
         resend: deployment.resend(),
@@ -77,6 +77,10 @@ fn three_nodes(rt: HostRuntime) -> Result<(), Fail> {
         journal: 1_048_576,
     };
     assert!(rt; shows_numbers(&deployment, numbers));
+    assert_eq!(rt;
+        (deployment.nodes().len(), deployment.clients().len()),
+        (3, 2)
+    );
     assert!(rt; has_node(&deployment, 0, "127.0.0.1:7100"));
     assert!(rt; has_node(&deployment, 2, "127.0.0.1:7102"));
     assert!(rt; deployment.node(NodeId(3)).is_none());
@@ -139,6 +143,20 @@ fn nine_nodes(rt: HostRuntime) -> Result<(), Fail> {
         deployment.route(&Command::ReadLog { log, position: 0 }),
         Err(NoGroup)
     );
+    Ok(())
+}
+
+#[test]
+fn rounds_of_rings(rt: HostRuntime) -> Result<(), Fail> {
+    let alloc = rt.alloc();
+    let Some((front, rest)) = NINE_NODES.split_once("acceptors = [0, 1, 2]") else {
+        return Err("no first ring".into());
+    };
+    let text = format!(in alloc; "{front}acceptors = [0, 1, 2]\nm = 1024{rest}")?;
+    let rounds = Deployment::from_bytes(alloc, text.as_bytes())?.rounds();
+    for (ring, want) in [(0, 1024), (1, 1), (2, 1), (3, 1)] {
+        assert_eq!(rt; rounds.of(RingId(ring)), want, "of ring {ring}");
+    }
     Ok(())
 }
 

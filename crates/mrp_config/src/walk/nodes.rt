@@ -1,19 +1,20 @@
 //! The tables of nodes, clients and rings.
 
-ghost use Rattle.std.specs.Prelude.{◌≡◌, map};
-ghost use Rattle.toml.specs.View.{table_view};
-ghost use Rattle.mrp_config.specs.Walk.{Says, node_of, nodes_of, top_nodes, client_of, clients_of, top_clients, acceptors_of, ring_of, rings_of, top_rings};
+ghost use Rattle.std.specs.Prelude.{◌≡◌, ◌≤◌, IfOk, map};
+ghost use Rattle.std.specs.Option.{option_map};
+ghost use Rattle.toml.specs.View.{view, table_view};
+ghost use Rattle.mrp_config.specs.Walk.{Says, node_of, nodes_of, top_nodes, client_of, clients_of, top_clients, acceptors_of, size_of, ring_of, rings_of, top_rings};
 
 use super::address::read_address;
 use super::names::judge_names;
-use super::numbers::read_id;
+use super::numbers::{read_id, read_number};
 use super::seats::read_seats;
 use super::tables::read_tables;
 use super::values::value_at;
 use crate::{ClientTable, ConfigFault, NodeTable, RingTable};
 use mrp_types::{ClientId, NodeId, RingId, Seats};
 use std::alloc::Global;
-use toml::Table;
+use toml::{Table, Value};
 
 #[tactic(auto, unfolding(crate::specs::Walk::node_of))]
 fn read_node(alloc: Global, least: u64, table: &Table) -> Result<NodeTable, ConfigFault>
@@ -91,41 +92,65 @@ fn read_acceptors(alloc: Global, nodes: &[u8], table: &Table) -> Result<Seats, C
     read_seats(alloc, "ring.acceptors", &[], nodes, found)
 }
 
+// The size of a ring's round, the usual one where the key is missing.
+fn read_size(alloc: Global, usual: u16, found: Option<&Value>) -> Result<u16, ConfigFault>
+    ensures { Says (λ n. n) (size_of usual (option_map (λ v. view v.now) found.entry)) result }
+{
+    let Some(value) = found else {
+        return Ok(usual);
+    };
+    Ok(read_number(alloc, "ring.m", 1, 1_024, Some(value))? as u16)
+}
+
 #[tactic(auto, unfolding(crate::specs::Walk::ring_of))]
 fn read_ring(
     alloc: Global,
+    usual: u16,
     nodes: &[u8],
     least: u64,
     table: &Table,
 ) -> Result<RingTable, ConfigFault>
-    ensures { Says (λ r. r) (ring_of nodes.now least (table_view table.now)) result }
+    ensures { Says (λ r. r) (ring_of usual nodes.now least (table_view table.now)) result }
 {
     let id = read_id(alloc, "ring.id", 15, least, value_at(table, "id"))?;
     let acceptors = read_acceptors(alloc, nodes, table)?;
-    judge_names(alloc, "ring.", &["id", "acceptors"], table)?;
+    let m = read_size(alloc, usual, value_at(table, "m"))?;
+    judge_names(alloc, "ring.", &["id", "acceptors", "m"], table)?;
     Ok(RingTable {
         id: RingId(id),
         acceptors,
+        m,
     })
 }
 
-fn each_ring(alloc: Global, nodes: &[u8], tables: &[&Table]) -> Result<Vec<RingTable>, ConfigFault>
-    ensures { Says (λ v. v.items) (rings_of nodes.now 0 (map (λ t. table_view t.now) tables.now)) result }
+fn each_ring(
+    alloc: Global,
+    usual: u16,
+    nodes: &[u8],
+    tables: &[&Table],
+) -> Result<Vec<RingTable>, ConfigFault>
+    ensures { Says (λ v. v.items) (rings_of usual nodes.now 0 (map (λ t. table_view t.now) tables.now)) result }
 {
     let mut rings = Vec::new(alloc);
     let mut least = 0;
     for table in tables {
-        let ring = read_ring(alloc, nodes, least, table)?;
+        let ring = read_ring(alloc, usual, nodes, least, table)?;
         least = u64::from(ring.id.0) + 1;
         rings.push(ring)?;
     }
     Ok(rings)
 }
 
-/// The rings of the top table; `nodes` are the ids of the nodes.
-pub fn read_rings(alloc: Global, nodes: &[u8], table: &Table) -> Result<Vec<RingTable>, ConfigFault>
-    ensures { Says (λ v. v.items) (top_rings nodes.now (table_view table.now)) result }
+/// The rings of the top table; `usual` is the size of a round where a ring has none, and `nodes` are the ids of the
+/// nodes.
+pub fn read_rings(
+    alloc: Global,
+    usual: u16,
+    nodes: &[u8],
+    table: &Table,
+) -> Result<Vec<RingTable>, ConfigFault>
+    ensures { Says (λ v. v.items) (top_rings usual nodes.now (table_view table.now)) result }
 {
     let tables = read_tables(alloc, "ring", 1, 16, value_at(table, "ring"))?;
-    each_ring(alloc, nodes, &tables)
+    each_ring(alloc, usual, nodes, &tables)
 }

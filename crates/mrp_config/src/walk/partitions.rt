@@ -3,7 +3,6 @@
 ghost use Rattle.std.specs.Prelude.{◌≡◌, ◌++◌, ◌≤◌, ◌<◌, map, IfOk, IfErr, OnOk, IsTrue, codes, []};
 ghost use Rattle.toml.specs.View.{table_view};
 ghost use Rattle.mrp_config.specs.declared.fault.ConfigFault.TheVariants.{Memory};
-ghost use Rattle.mrp_config.specs.Config.{ids_rise};
 ghost use Rattle.mrp_config.specs.Walk.{Says, replicas_at as replicas_at_lem, rings_at as rings_at_lem, home_at as home_at_lem, from_at as from_at_lem, to_at as to_at_lem, logs_at as logs_at_lem, trim_quorum_at as trim_quorum_at_lem, recovery_quorum_at as recovery_quorum_at_lem, numbers_of_nodes, partition_of, partitions_of, all_known, partition_names, top_partitions};
 
 use super::hex_text::read_hex;
@@ -149,8 +148,7 @@ fn each_partition(
     rings: &[u8],
     tables: &[&Table],
 ) -> Result<Vec<PartitionTable>, ConfigFault>
-    ensures walk { Says (λ v. v.items) (partitions_of nodes.now rings.now [] 0 (map (λ t. table_view t.now) tables.now)) result }
-    ensures rise { IfOk result (λ v. IsTrue (ids_rise 0 v.items)) }
+    ensures { Says (λ v. v.items) (partitions_of nodes.now rings.now [] 0 (map (λ t. table_view t.now) tables.now)) result }
 {
     let mut partitions = Vec::new(alloc);
     let mut taken = Vec::new(alloc);
@@ -171,8 +169,7 @@ pub fn read_partitions(
     rings: &[u8],
     table: &Table,
 ) -> Result<Vec<PartitionTable>, ConfigFault>
-    ensures walk { Says (λ v. v.items) (top_partitions nodes.now rings.now (table_view table.now)) result }
-    ensures rise { IfOk result (λ v. IsTrue (ids_rise 0 v.items)) }
+    ensures { Says (λ v. v.items) (top_partitions nodes.now rings.now (table_view table.now)) result }
 {
     let tables = read_tables(alloc, "partition", 1, 16, value_at(table, "partition"))?;
     each_partition(alloc, nodes, rings, &tables)

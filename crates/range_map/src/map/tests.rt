@@ -74,6 +74,11 @@ fn a_range_set_below_a_cut(rt: HostRuntime) -> Result<(), Fail> {
     assert_eq!(rt; held_at(&map, 0), None);
     assert_eq!(rt; map.next_after(2), Some(4));
     assert_eq!(rt; map.run_at(4), Some((4, 10)));
+    let Some((lo, hi, value)) = map.first_run(2) else {
+        return Err(Fail::from("a run"));
+    };
+    assert_eq!(rt; (lo, hi, *value), (4, 10, A));
+    assert!(rt; map.first_run(10).is_none());
     Ok(())
 }
 

@@ -5,4 +5,4 @@ pub returns-clause-left : goal.returns-clause-left
 returns-clause-left c = opened_left
 
 pub returns-clause-right : goal.returns-clause-right
-returns-clause-right c = λ config fit lines id journal checks epoch same kept right known covered. opened_lines config fit lines id journal checks epoch same kept right known covered
+returns-clause-right c = λ config fit lines id journal checkpoints epoch same kept right known covered. opened_lines config fit lines id journal checkpoints epoch same kept right known covered

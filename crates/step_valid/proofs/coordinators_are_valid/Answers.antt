@@ -1,4 +1,4 @@
-use Rattle.protocol.specs.Doing.{nothing_done}
+use Rattle.protocol.specs.Effects.{no_effects}
 use Rattle.step_valid.proofs.Words.{valid_none, valid_proposes}
 use Rattle.step_valid.proofs.Tables.{valid_promised, valid_refused, valid_leads, valid_starts}
 use Rattle.step_valid.proofs.Others.{valid_submits, valid_resends}
@@ -20,7 +20,7 @@ pub returns-clause-submit : goal.returns-clause-submit
 returns-clause-submit c = valid_submits
 
 pub returns-clause-propose : goal.returns-clause-propose
-returns-clause-propose c = λ ring numbered link part p. valid_proposes ring numbered (nothing_done part) link (valid_none ring numbered part p)
+returns-clause-propose c = λ ring numbered link part p. valid_proposes ring numbered (no_effects part) link (valid_none ring numbered part p)
 
 pub returns-clause-resend : goal.returns-clause-resend
 returns-clause-resend c = valid_resends

@@ -16,9 +16,15 @@ const WIDE: u64 = 1_048_576;
 
 const RING: RingId = RingId(1);
 
-// A first record that says epoch 1, and the front before it.
-const OPENED: [u8; 29] = [
+// A first record of format 1 that says epoch 1, and the front before it.
+const OLDER: [u8; 29] = [
     1, 0x4d, 0x52, 0x4a, 0, 0, 0, 1, 0, 0, 0, 0, 0, 0, 0, 1, 1, 0, 0, 0, 7, 5, 0, 1, 0, 0, 0, 1, 0,
+];
+
+// The same in format 2, as an opening writes it.
+const OPENED: [u8; 34] = [
+    1, 0x4d, 0x52, 0x4a, 0, 0, 0, 1, 0, 0, 0, 0, 0, 0, 0, 1, 1, 0, 0, 0, 12, 6, 0, 0, 0, 2, 5, 0,
+    1, 0, 0, 0, 1, 0,
 ];
 
 // What a state has of the ring.
@@ -110,17 +116,36 @@ fn two_openings(rt: HostRuntime) -> Result<(), Fail> {
     assert_eq!(rt; reopen(rt.alloc(), &mut disk)?.epoch, 1);
     assert_eq!(rt; disk.bytes(Area::Journal0), OPENED.as_slice());
     assert_eq!(rt; reopen(rt.alloc(), &mut disk)?.epoch, 2);
-    let bytes = [
-        1, 0x4d, 0x52, 0x4a, 0, 0, 0, 1, 0, 0, 0, 0, 0, 0, 0, 1, 1, 0, 0, 0, 7, 5, 0, 1, 0, 0, 0,
-        1, 1, 0, 0, 0, 5, 1, 0, 0, 0, 2, 0,
-    ];
+    let mut bytes = OPENED[..33].to_vec(rt.alloc())?;
+    bytes.extend_from_slice(&[1, 0, 0, 0, 10, 6, 0, 0, 0, 1, 1, 0, 0, 0, 2, 0])?;
     assert_eq!(rt; disk.bytes(Area::Journal0), bytes.as_slice());
+    Ok(())
+}
+
+// A journal of format 1 goes on in format 2, which a compaction leaves alone.
+#[test]
+fn an_older_journal_goes_on(rt: HostRuntime) -> Result<(), Fail> {
+    let bytes = OLDER.as_slice().to_vec(rt.alloc())?;
+    let mut disk = disk_of(rt.alloc(), bytes, Vec::new(rt.alloc()));
+    let journal = VoteJournal::open(rt.alloc(), &mut disk, NodeId(0), WIDE)?;
+    assert_eq!(rt; journal.durable().epoch(), 2);
+    let second = [1, 0, 0, 0, 10, 6, 0, 0, 0, 1, 1, 0, 0, 0, 2, 0];
+    let mut bytes = OLDER[..28].to_vec(rt.alloc())?;
+    bytes.extend_from_slice(&second)?;
+    assert_eq!(rt; disk.bytes(Area::Journal0), bytes.as_slice());
+    assert!(rt; journal.generation() < u64::MAX);
+    let _ = journal.compact(&mut disk)?;
+    let compacted = [
+        1, 0x4d, 0x52, 0x4a, 0, 0, 0, 1, 0, 0, 0, 0, 0, 0, 0, 2, 1, 0, 0, 0, 12, 6, 0, 0, 0, 2, 5,
+        0, 1, 0, 0, 0, 2, 0,
+    ];
+    assert_eq!(rt; disk.bytes(Area::Journal1), compacted.as_slice());
     Ok(())
 }
 
 #[test]
 fn a_journal_of_another_node(rt: HostRuntime) -> Result<(), Fail> {
-    let bytes = OPENED.as_slice().to_vec(rt.alloc())?;
+    let bytes = OLDER.as_slice().to_vec(rt.alloc())?;
     let mut disk = disk_of(rt.alloc(), bytes, Vec::new(rt.alloc()));
     assert_eq!(rt;
         refusal(rt.alloc(), &mut disk, NodeId(1)),
@@ -133,7 +158,7 @@ fn a_journal_of_another_node(rt: HostRuntime) -> Result<(), Fail> {
 #[test]
 fn the_last_epoch(rt: HostRuntime) -> Result<(), Fail> {
     for (last, want) in [(255, Some(OpenFault::EpochLimit)), (254, None)] {
-        let mut bytes = OPENED[..24].to_vec(rt.alloc())?;
+        let mut bytes = OLDER[..24].to_vec(rt.alloc())?;
         bytes.extend_from_slice(&[255, 255, 255, last, 0])?;
         let mut disk = disk_of(rt.alloc(), bytes, Vec::new(rt.alloc()));
         assert_eq!(rt; refusal(rt.alloc(), &mut disk, NodeId(0)), want, "{last}");
@@ -274,24 +299,24 @@ fn voted<D: Disk>(alloc: Global, disk: &mut D, room: u16, compacts: bool) -> Out
     either(change(alloc, disk, room, &changes, compacts))
 }
 
-// A first record of 7 bytes ends at 17 + 5 + 7, so 11 bytes are too few and 12 are room for it.
+// A first record of 12 bytes ends at 17 + 5 + 12, so 16 bytes are too few and 17 are room for it.
 #[test]
 fn an_opening_without_room(rt: HostRuntime) -> Result<(), Fail> {
-    let full = Outcome::NotOpened(OpenFault::Full(29));
-    for (room, want) in [(0, full), (11, full), (12, Outcome::Ends(29, 29))] {
+    let full = Outcome::NotOpened(OpenFault::Full(34));
+    for (room, want) in [(0, full), (16, full), (17, Outcome::Ends(34, 34))] {
         let mut disk = SimDisk::empty(rt.alloc());
         assert_eq!(rt; unchanged(rt.alloc(), &mut disk, room), want, "{room}");
     }
     Ok(())
 }
 
-// A record of a promise has 10 bytes, and one of the state 17.
+// A record of a promise has 15 bytes, and one of the state 22.
 #[test]
 fn a_promise_without_room(rt: HostRuntime) -> Result<(), Fail> {
     for (room, compacts, want) in [
-        (26, false, Outcome::NotWritten(JournalFault::Full(44))),
-        (27, false, Outcome::Ends(29, 44)),
-        (27, true, Outcome::Ends(39, 39)),
+        (36, false, Outcome::NotWritten(JournalFault::Full(54))),
+        (37, false, Outcome::Ends(34, 54)),
+        (37, true, Outcome::Ends(44, 44)),
     ] {
         let mut disk = SimDisk::empty(rt.alloc());
         let outcome = promised(rt.alloc(), &mut disk, room, compacts);
@@ -300,16 +325,16 @@ fn a_promise_without_room(rt: HostRuntime) -> Result<(), Fail> {
     Ok(())
 }
 
-// A record of the two votes has 58 bytes, and one of the state with three of them 94.
+// A record of the two votes has 63 bytes, and one of the state with three of them 99.
 #[test]
 fn votes_without_room(rt: HostRuntime) -> Result<(), Fail> {
-    let full = Outcome::NotWritten(JournalFault::Full(116));
+    let full = Outcome::NotWritten(JournalFault::Full(121));
     for (room, compacts, want) in [
-        (74, false, Outcome::NotWritten(JournalFault::Full(92))),
-        (75, false, Outcome::Ends(29, 92)),
-        (75, true, full),
-        (98, true, full),
-        (99, true, Outcome::Ends(116, 116)),
+        (84, false, Outcome::NotWritten(JournalFault::Full(102))),
+        (85, false, Outcome::Ends(34, 102)),
+        (85, true, full),
+        (103, true, full),
+        (104, true, Outcome::Ends(121, 121)),
     ] {
         let mut disk = SimDisk::empty(rt.alloc());
         let outcome = voted(rt.alloc(), &mut disk, room, compacts);
@@ -323,8 +348,8 @@ fn votes_without_room(rt: HostRuntime) -> Result<(), Fail> {
 fn no_changes_make_no_call(rt: HostRuntime) -> Result<(), Fail> {
     let mut disk = SimDisk::empty(rt.alloc());
     disk.fuse(13);
-    let outcome = unchanged(rt.alloc(), &mut disk, 12);
-    assert_eq!(rt; outcome, Outcome::Ends(29, 29));
+    let outcome = unchanged(rt.alloc(), &mut disk, 17);
+    assert_eq!(rt; outcome, Outcome::Ends(34, 34));
     assert_eq!(rt; disk.bytes(Area::Journal0), OPENED.as_slice());
     assert!(rt; !disk.stopped());
     Ok(())
@@ -389,14 +414,14 @@ fn stops_of_a_compaction(rt: HostRuntime) -> Result<(), Fail> {
     for calls in 17..25 {
         assert!(rt; stops_at(rt.alloc(), calls, want, 2, 4)?, "{calls}");
     }
-    let all = Outcome::Ends(39, 39);
+    let all = Outcome::Ends(44, 44);
     assert!(rt; stops_at(rt.alloc(), 25, all, 2, 4)?);
     Ok(())
 }
 
 // A disk whose first record is followed by these bytes.
 fn with_behind(alloc: Global, bytes: &[u8]) -> Result<SimDisk, Fail> {
-    let mut all = OPENED[..28].to_vec(alloc)?;
+    let mut all = OLDER[..28].to_vec(alloc)?;
     all.extend_from_slice(bytes)?;
     Ok(disk_of(alloc, all, Vec::new(alloc)))
 }
@@ -411,6 +436,33 @@ fn another_node_before_a_bad_record(rt: HostRuntime) -> Result<(), Fail> {
         let mut disk = with_behind(rt.alloc(), &[1, 0, 0, 0, 1, 0, 0])?;
         let fault = refusal(rt.alloc(), &mut disk, NodeId(node));
         assert_eq!(rt; fault, Some(want), "{node}");
+    }
+    Ok(())
+}
+
+// One of format 2 behind the first one, and then another.
+#[test]
+fn records_of_format_2_behind_it(rt: HostRuntime) -> Result<(), Fail> {
+    let good = [6, 0, 0, 0, 1, 1, 0, 0, 0, 2];
+    let rows: [(&[u8], Option<u64>); 6] = [
+        (&[6, 0, 0, 0, 1, 1, 0, 0, 0, 3], None),
+        // Of format 1, also where it has no change.
+        (&[1, 0, 0, 0, 3], Some(43)),
+        (&[], Some(43)),
+        // A byte left over, no change, and a number that is cut.
+        (&[6, 0, 0, 0, 1, 1, 0, 0, 0, 3, 0], Some(43)),
+        (&[6, 0, 0, 0, 0], Some(43)),
+        (&[6, 0, 0], Some(43)),
+    ];
+    for (last, bad) in rows {
+        let mut behind = [1, 0, 0, 0, 10].to_vec(rt.alloc())?;
+        behind.extend_from_slice(&good)?;
+        behind.extend_from_slice(&[1, 0, 0, 0, (last.len() % 256) as u8])?;
+        behind.extend_from_slice(last)?;
+        behind.push(0)?;
+        let mut disk = with_behind(rt.alloc(), &behind)?;
+        let fault = refusal(rt.alloc(), &mut disk, NodeId(0));
+        assert_eq!(rt; fault, bad.map(OpenFault::BadRecord), "{last:?}");
     }
     Ok(())
 }

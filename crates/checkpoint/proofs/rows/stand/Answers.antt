@@ -3,7 +3,7 @@ use Rattle.command_codec.specs.Fields.{u64_bytes}
 use Rattle.command_codec.specs.Reader.{bytes_at, number_at, within}
 use Rattle.frames.specs.Grammar.{tuple_at}
 use Rattle.gate_area.specs.Standing.{generation_of}
-use Rattle.checkpoint.specs.Checks.{checkpoint_at}
+use Rattle.checkpoint.specs.Checkpoints.{checkpoint_at}
 use Rattle.checkpoint.proofs.rows.stand.Goals as goal
 
 pub returns-clause-fresh : goal.returns-clause-fresh
@@ -17,3 +17,7 @@ returns-clause-first c = refl
 pub returns-clause-both : goal.returns-clause-both
 unfolding u64_bytes bytes_at number_at within tuple_at generation_of checkpoint_at
 returns-clause-both c = refl
+
+pub returns-clause-older : goal.returns-clause-older
+unfolding u64_bytes bytes_at number_at within tuple_at generation_of checkpoint_at
+returns-clause-older c = refl

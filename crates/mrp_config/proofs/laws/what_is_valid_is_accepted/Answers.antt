@@ -50,11 +50,11 @@ top_clients_back c h =
     step (tables_of (codes "client") 0 256 (Some (tables_with client_table c.clients))) (clients_of 0) (map client_table c.clients) _ (tables_back (codes "client") 0 256 client_table c.clients (omega arith, h.clients.few))
     (clients_back 0 c.clients h.clients.ids h.clients.numbers h.clients.addresses)
 
-top_rings_back : (c : Config) → IsValid c → top_rings (node_ids c.nodes) (described c) ≡ Ok c.rings
+top_rings_back : (c : Config) → IsValid c → top_rings c.m (node_ids c.nodes) (described c) ≡ Ok c.rings
 unfolding described
 top_rings_back c h =
-    step (tables_of (codes "ring") 1 16 (Some (tables_with ring_table c.rings))) (rings_of (node_ids c.nodes) 0) (map ring_table c.rings) _ (tables_back (codes "ring") 1 16 ring_table c.rings h.rings.few)
-    (rings_back (node_ids c.nodes) 0 c.rings h.rings.ids h.rings.numbers h.rings.acceptors)
+    step (tables_of (codes "ring") 1 16 (Some (tables_with ring_table c.rings))) (rings_of c.m (node_ids c.nodes) 0) (map ring_table c.rings) _ (tables_back (codes "ring") 1 16 ring_table c.rings h.rings.few)
+    (rings_back c.m (node_ids c.nodes) 0 c.rings h.rings.ids h.rings.numbers h.rings.acceptors h.rings.rounds)
 
 top_partitions_back : (c : Config) → IsValid c → top_partitions (node_ids c.nodes) (ring_ids c.rings) (described c) ≡ Ok c.partitions
 unfolding described
@@ -69,7 +69,7 @@ config_back c h =
     step (top_numbers (described c)) _ (numbers_in c) _ (top_numbers_back c h)
     (step (top_nodes (described c)) _ c.nodes _ (top_nodes_back c h)
     (step (top_clients (described c)) _ c.clients _ (top_clients_back c h)
-    (step (top_rings (node_ids c.nodes) (described c)) _ c.rings _ (top_rings_back c h)
+    (step (top_rings c.m (node_ids c.nodes) (described c)) _ c.rings _ (top_rings_back c h)
     (step (top_partitions (node_ids c.nodes) (ring_ids c.rings) (described c)) _ c.partitions _ (top_partitions_back c h)
     (step (judged c.partitions) _ tt _ (judged_back (node_ids c.nodes) (ring_ids c.rings) c.partitions h.partitions) refl)))))
 

@@ -3,13 +3,13 @@ use Rattle.std.specs.Fmt.{digits}
 use Rattle.hex.specs.Hex.{encode_with, decode_pairs}
 use Rattle.mrp_config.specs.Routing.{is_concerned}
 use Rattle.schedule.specs.Fields.{number_in, known, bytes_in, byte_of, logs_of}
-use Rattle.schedule.specs.Reading.{append_at, multi_at, read_at, trimlog_at, get_at, scan_at, update_at, insert_at, delete_at, commands_on_keys, command_at, ask_at, flow_at, lose_at, deliver_at, list_at, tick_at, lead_at, crash_at, image_at, restart_at, calls_at, fuse_at, fail_at, failread_at, show_at, events_of_disks, events_of_nodes, event_at, line_of}
+use Rattle.schedule.specs.Reading.{append_at, multi_at, read_at, trimlog_at, get_at, scan_at, update_at, insert_at, delete_at, swap_at, commands_on_keys, command_at, ask_at, flow_at, lose_at, deliver_at, list_at, tick_at, lead_at, crash_at, image_at, restart_at, calls_at, fuse_at, fail_at, failread_at, show_at, events_of_disks, events_of_nodes, event_at, line_of}
 use Rattle.schedule.proofs.rows.events_of_each_kind.Goals as goal
 
 pub returns-clause-written : goal.returns-clause-written
 unfolding digits encode_with
-returns-clause-written c = (refl, (refl, (refl, (refl, (refl, (refl, (refl, (refl, (refl, (refl, (refl, (refl, (refl, (refl, (refl, (refl, (refl, (refl, (refl, (refl, (refl, (refl, (refl, (refl, (refl, (refl, (refl, (refl, (refl, (refl, tt))))))))))))))))))))))))))))))
+returns-clause-written c = (refl, (refl, (refl, (refl, (refl, (refl, (refl, (refl, (refl, (refl, (refl, (refl, (refl, (refl, (refl, (refl, (refl, (refl, (refl, (refl, (refl, (refl, (refl, (refl, (refl, (refl, (refl, (refl, (refl, (refl, (refl, tt)))))))))))))))))))))))))))))))
 
 pub returns-clause-read : goal.returns-clause-read
-unfolding digits encode_with decode_pairs number_in known bytes_in byte_of logs_of is_concerned append_at multi_at read_at trimlog_at get_at scan_at update_at insert_at delete_at commands_on_keys command_at ask_at flow_at lose_at deliver_at list_at tick_at lead_at crash_at image_at restart_at calls_at fuse_at fail_at failread_at show_at events_of_disks events_of_nodes event_at line_of
-returns-clause-read c = (refl, (refl, (refl, (refl, (refl, (refl, (refl, (refl, (refl, (refl, (refl, (refl, (refl, (refl, (refl, (refl, (refl, (refl, (refl, (refl, (refl, (refl, (refl, (refl, (refl, (refl, (refl, (refl, (refl, (refl, tt))))))))))))))))))))))))))))))
+unfolding digits encode_with decode_pairs number_in known bytes_in byte_of logs_of is_concerned append_at multi_at read_at trimlog_at get_at scan_at update_at insert_at delete_at swap_at commands_on_keys command_at ask_at flow_at lose_at deliver_at list_at tick_at lead_at crash_at image_at restart_at calls_at fuse_at fail_at failread_at show_at events_of_disks events_of_nodes event_at line_of
+returns-clause-read c = (refl, (refl, (refl, (refl, (refl, (refl, (refl, (refl, (refl, (refl, (refl, (refl, (refl, (refl, (refl, (refl, (refl, (refl, (refl, (refl, (refl, (refl, (refl, (refl, (refl, (refl, (refl, (refl, (refl, (refl, (refl, tt)))))))))))))))))))))))))))))))

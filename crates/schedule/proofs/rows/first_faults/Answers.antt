@@ -3,21 +3,21 @@ use Rattle.std.specs.Fmt.{digits}
 use Rattle.hex.specs.Hex.{encode_with, decode_pairs}
 use Rattle.mrp_config.specs.Routing.{is_concerned}
 use Rattle.schedule.specs.Fields.{number_in, known, bytes_in, byte_of, logs_of}
-use Rattle.schedule.specs.Reading.{append_at, multi_at, read_at, trimlog_at, get_at, scan_at, update_at, insert_at, delete_at, commands_on_keys, command_at, ask_at, flow_at, lose_at, deliver_at, list_at, tick_at, lead_at, crash_at, image_at, restart_at, calls_at, fuse_at, fail_at, failread_at, show_at, events_of_disks, events_of_nodes, event_at, line_of}
+use Rattle.schedule.specs.Reading.{append_at, multi_at, read_at, trimlog_at, get_at, scan_at, update_at, insert_at, delete_at, swap_at, commands_on_keys, command_at, ask_at, flow_at, lose_at, deliver_at, list_at, tick_at, lead_at, crash_at, image_at, restart_at, calls_at, fuse_at, fail_at, failread_at, show_at, events_of_disks, events_of_nodes, event_at, line_of}
 use Rattle.schedule.proofs.rows.first_faults.Goals as goal
 
 pub returns-clause-words : goal.returns-clause-words
-unfolding digits encode_with decode_pairs number_in known bytes_in byte_of logs_of is_concerned append_at multi_at read_at trimlog_at get_at scan_at update_at insert_at delete_at commands_on_keys command_at ask_at flow_at lose_at deliver_at list_at tick_at lead_at crash_at image_at restart_at calls_at fuse_at fail_at failread_at show_at events_of_disks events_of_nodes event_at line_of
-returns-clause-words c = (refl, (refl, (refl, (refl, (refl, (refl, (refl, (refl, (refl, (refl, (refl, (refl, (refl, (refl, (refl, (refl, (refl, (refl, (refl, (refl, (refl, (refl, (refl, (refl, (refl, (refl, (refl, (refl, (refl, (refl, (refl, (refl, (refl, (refl, (refl, (refl, (refl, (refl, (refl, (refl, (refl, (refl, tt))))))))))))))))))))))))))))))))))))))))))
+unfolding digits encode_with decode_pairs number_in known bytes_in byte_of logs_of is_concerned append_at multi_at read_at trimlog_at get_at scan_at update_at insert_at delete_at swap_at commands_on_keys command_at ask_at flow_at lose_at deliver_at list_at tick_at lead_at crash_at image_at restart_at calls_at fuse_at fail_at failread_at show_at events_of_disks events_of_nodes event_at line_of
+returns-clause-words c = (refl, (refl, (refl, (refl, (refl, (refl, (refl, (refl, (refl, (refl, (refl, (refl, (refl, (refl, (refl, (refl, (refl, (refl, (refl, (refl, (refl, (refl, (refl, (refl, (refl, (refl, (refl, (refl, (refl, (refl, (refl, (refl, (refl, (refl, (refl, (refl, (refl, (refl, (refl, (refl, (refl, (refl, (refl, tt)))))))))))))))))))))))))))))))))))))))))))
 
 pub returns-clause-numbers : goal.returns-clause-numbers
-unfolding digits encode_with decode_pairs number_in known bytes_in byte_of logs_of is_concerned append_at multi_at read_at trimlog_at get_at scan_at update_at insert_at delete_at commands_on_keys command_at ask_at flow_at lose_at deliver_at list_at tick_at lead_at crash_at image_at restart_at calls_at fuse_at fail_at failread_at show_at events_of_disks events_of_nodes event_at line_of
+unfolding digits encode_with decode_pairs number_in known bytes_in byte_of logs_of is_concerned append_at multi_at read_at trimlog_at get_at scan_at update_at insert_at delete_at swap_at commands_on_keys command_at ask_at flow_at lose_at deliver_at list_at tick_at lead_at crash_at image_at restart_at calls_at fuse_at fail_at failread_at show_at events_of_disks events_of_nodes event_at line_of
 returns-clause-numbers c = (refl, (refl, (refl, (refl, (refl, (refl, (refl, (refl, (refl, (refl, (refl, (refl, (refl, (refl, (refl, (refl, (refl, (refl, (refl, (refl, (refl, (refl, (refl, (refl, (refl, (refl, (refl, (refl, (refl, tt)))))))))))))))))))))))))))))
 
 pub returns-clause-ranges : goal.returns-clause-ranges
-unfolding digits encode_with decode_pairs number_in known bytes_in byte_of logs_of is_concerned append_at multi_at read_at trimlog_at get_at scan_at update_at insert_at delete_at commands_on_keys command_at ask_at flow_at lose_at deliver_at list_at tick_at lead_at crash_at image_at restart_at calls_at fuse_at fail_at failread_at show_at events_of_disks events_of_nodes event_at line_of
+unfolding digits encode_with decode_pairs number_in known bytes_in byte_of logs_of is_concerned append_at multi_at read_at trimlog_at get_at scan_at update_at insert_at delete_at swap_at commands_on_keys command_at ask_at flow_at lose_at deliver_at list_at tick_at lead_at crash_at image_at restart_at calls_at fuse_at fail_at failread_at show_at events_of_disks events_of_nodes event_at line_of
 returns-clause-ranges c = (refl, (refl, (refl, (refl, (refl, (refl, (refl, (refl, (refl, (refl, (refl, (refl, (refl, (refl, (refl, (refl, (refl, (refl, (refl, (refl, (refl, (refl, (refl, (refl, (refl, (refl, (refl, (refl, (refl, (refl, (refl, (refl, (refl, (refl, (refl, (refl, (refl, (refl, tt))))))))))))))))))))))))))))))))))))))
 
 pub returns-clause-later : goal.returns-clause-later
-unfolding digits encode_with decode_pairs number_in known bytes_in byte_of logs_of is_concerned append_at multi_at read_at trimlog_at get_at scan_at update_at insert_at delete_at commands_on_keys command_at ask_at flow_at lose_at deliver_at list_at tick_at lead_at crash_at image_at restart_at calls_at fuse_at fail_at failread_at show_at events_of_disks events_of_nodes event_at line_of
+unfolding digits encode_with decode_pairs number_in known bytes_in byte_of logs_of is_concerned append_at multi_at read_at trimlog_at get_at scan_at update_at insert_at delete_at swap_at commands_on_keys command_at ask_at flow_at lose_at deliver_at list_at tick_at lead_at crash_at image_at restart_at calls_at fuse_at fail_at failread_at show_at events_of_disks events_of_nodes event_at line_of
 returns-clause-later c = (refl, (refl, (refl, (refl, (refl, (refl, (refl, (refl, (refl, (refl, (refl, (refl, (refl, (refl, (refl, (refl, (refl, (refl, (refl, (refl, (refl, (refl, (refl, (refl, (refl, tt)))))))))))))))))))))))))

@@ -1,4 +1,4 @@
-use Rattle.std.proofs.Common.{◌≡◌, ◌∙◌, ℕ, List, ◌∷◌, [], Option, Ok, sym, subst}
+use Rattle.std.proofs.Common.{◌≡◌, ◌∙◌, ℕ, ◌+◌, ◌<◌, ◌^◌, List, ◌∷◌, [], length, Option, Ok, sym, subst}
 use Rattle.std.specs.List.{AllByRecursion}
 use Rattle.disk_model.specs.Calls.{Told, LeavesOnly, reads}
 use Rattle.disk_model.specs.declared.areas.Areas.{Areas}
@@ -27,12 +27,12 @@ replace_records-requires-clause-log g c t tells =
     subst (λ (j : Journal). IsLogOf j.log (reads t)) (sym c.self.view_is) (log_stands c.args.self (reads t) (c.requires.stands t tells))
 
 -- the bytes that are written stand for the state of the journal that was given
-stands_again : (areas : Areas) (j inside : Journal) (cs : List Change) (bytes : List ℕ) → inside ≡ j → bytes ≡ first_bytes inside.id cs → cs ≡ state_changes inside.state → AllByRecursion IsChange cs → taken cs nothing_kept ≡ inside.state →
+stands_again : (areas : Areas) (j inside : Journal) (cs : List Change) (bytes : List ℕ) → inside ≡ j → bytes ≡ first_bytes inside.id cs → cs ≡ state_changes inside.state → AllByRecursion IsChange cs → taken cs nothing_kept ≡ inside.state → length cs + 1 < 2 ^ 32 →
     Stands j areas → state_of inside.id (bytes ∷ []) ≡ Ok inside.state
-stands_again areas j inside cs bytes view spelled are each made stands =
+stands_again areas j inside cs bytes view spelled are each made fits stands =
     let state : state_of inside.id stands.records ≡ Ok inside.state = subst (λ (x : Journal). state_of x.id stands.records ≡ Ok x.state) (sym view) stands.state in
     subst (λ (b : List ℕ). state_of inside.id (b ∷ []) ≡ Ok inside.state) (sym spelled)
-    (one_record_state inside.id inside.state cs are each made (kept_epoch inside.id stands.records inside.state stands.some state))
+    (one_record_state inside.id inside.state cs are each made (kept_epoch inside.id stands.records inside.state stands.some state) fits)
 
 -- what it leaves, of the journal that was given
 left_by : (t : Told) (now : Option Told) (j inside : Journal) (bytes : List ℕ) → inside ≡ j → Stands j (reads t) → state_of inside.id (bytes ∷ []) ≡ Ok inside.state →
@@ -45,14 +45,14 @@ pub returns-in_err-log-clause-moments : goal.returns-in_err-log-clause-moments
 returns-in_err-log-clause-moments g c t tells =
     let stands = c.requires.stands t tells in
     left_by t (g.D.Disk.told c.replace_records.new.disk) c.args.self _ c.bytes-2.result.now c.self.view_is stands
-    (stands_again (reads t) c.args.self _ c.in_ok-changes.changes c.bytes-2.result.now c.self.view_is (c.bytes-2.ensures ∙ c.in_ok-bytes.ensures) c.in_ok-changes.ensures.changes c.in_ok-changes.ensures.valid c.in_ok-changes.ensures.again stands)
+    (stands_again (reads t) c.args.self _ c.in_ok-changes.changes c.bytes-2.result.now c.self.view_is (c.bytes-2.ensures ∙ c.in_ok-bytes.ensures.bytes) c.in_ok-changes.ensures.changes c.in_ok-changes.ensures.valid c.in_ok-changes.ensures.again c.in_ok-bytes.ensures.count stands)
     (λ records holds. c.replace_records.ensures.moments t records tells holds)
 
 pub returns-clause-moments : goal.returns-clause-moments
 returns-clause-moments g c t tells =
     let stands = c.requires.stands t tells in
     left_by t (g.D.Disk.told c.replace_records.new.disk) c.args.self _ c.bytes-2.result.now c.self.view_is stands
-    (stands_again (reads t) c.args.self _ c.in_ok-changes.changes c.bytes-2.result.now c.self.view_is (c.bytes-2.ensures ∙ c.in_ok-bytes.ensures) c.in_ok-changes.ensures.changes c.in_ok-changes.ensures.valid c.in_ok-changes.ensures.again stands)
+    (stands_again (reads t) c.args.self _ c.in_ok-changes.changes c.bytes-2.result.now c.self.view_is (c.bytes-2.ensures ∙ c.in_ok-bytes.ensures.bytes) c.in_ok-changes.ensures.changes c.in_ok-changes.ensures.valid c.in_ok-changes.ensures.again c.in_ok-bytes.ensures.count stands)
     (λ records holds. c.replace_records.ensures.moments t records tells holds)
 
 -- what was made of the journal that was given
@@ -68,5 +68,5 @@ returns-clause-stands g c u now_tells =
     (compact_calls c.self.inside.log c.bytes-2.result.now) u c.replace_records.ensures.some c.replace_records.ensures.honest now_tells in
     let stands = c.requires.stands before.0 before.1 in
     stood_by before.0 (reads u) c.args.self _ c.in_ok-log.log c.bytes-2.result.now c.self.view_is stands
-    (stands_again (reads before.0) c.args.self _ c.in_ok-changes.changes c.bytes-2.result.now c.self.view_is (c.bytes-2.ensures ∙ c.in_ok-bytes.ensures) c.in_ok-changes.ensures.changes c.in_ok-changes.ensures.valid c.in_ok-changes.ensures.again stands)
+    (stands_again (reads before.0) c.args.self _ c.in_ok-changes.changes c.bytes-2.result.now c.self.view_is (c.bytes-2.ensures ∙ c.in_ok-bytes.ensures.bytes) c.in_ok-changes.ensures.changes c.in_ok-changes.ensures.valid c.in_ok-changes.ensures.again c.in_ok-bytes.ensures.count stands)
     (λ records holds. c.in_ok-log.ensures.holds before.0 u records before.1 now_tells holds)

@@ -1,8 +1,0 @@
-use Rattle.faithful.proofs.OneMore.{reads_same, reads_on}
-use Rattle.faithful.proofs.one_line_more.Goals as goal
-
-pub returns-clause-others : goal.returns-clause-others
-returns-clause-others c = reads_same
-
-pub returns-clause-own : goal.returns-clause-own
-returns-clause-own c = reads_on

@@ -1,0 +1,9 @@
+pub mod Words
+pub mod Growing
+pub mod OneMore
+pub mod OneBook
+pub mod Printed
+pub mod Ranges
+pub mod Decided
+pub mod Judging
+pub mod Following

@@ -1,0 +1,9 @@
+pub mod Scanners
+pub mod Owed
+pub mod More
+pub mod Names
+pub mod Rules
+pub mod Tests
+pub mod Verdict
+pub mod Follows
+pub mod Rows

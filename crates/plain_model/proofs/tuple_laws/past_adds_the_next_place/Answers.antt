@@ -1,5 +1,0 @@
-use Rattle.plain_model.proofs.TupleOrder.{below_past}
-use Rattle.plain_model.proofs.tuple_laws.past_adds_the_next_place.Goals as goal
-
-pub returns : goal.returns
-returns c = below_past

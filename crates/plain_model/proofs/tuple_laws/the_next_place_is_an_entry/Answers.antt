@@ -1,5 +1,0 @@
-use Rattle.plain_model.proofs.TupleOrder.{next_is_one}
-use Rattle.plain_model.proofs.tuple_laws.the_next_place_is_an_entry.Goals as goal
-
-pub returns : goal.returns
-returns c = next_is_one

@@ -1,5 +1,0 @@
-use Rattle.plain_model.proofs.TupleOrder.{none_before_next}
-use Rattle.plain_model.proofs.tuple_laws.the_next_place_is_first.Goals as goal
-
-pub returns : goal.returns
-returns c = none_before_next

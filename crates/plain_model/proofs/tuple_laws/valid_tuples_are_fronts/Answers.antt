@@ -1,5 +1,0 @@
-use Rattle.plain_model.proofs.TupleOrder.{valid_is_front, front_is_valid}
-use Rattle.plain_model.proofs.tuple_laws.valid_tuples_are_fronts.Goals as goal
-
-pub returns : goal.returns
-returns c = λ m tuple. (valid_is_front m tuple, front_is_valid m tuple)

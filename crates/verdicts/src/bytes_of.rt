@@ -1,0 +1,43 @@
+//! The bytes that a case gives to its reader.
+
+use crate::texts::Texts;
+use std::alloc::{AllocError, Global};
+
+/// The bytes of hexadecimal text; none where it is no such text.
+pub fn bytes_of_hex(alloc: Global, text: &str) -> Result<Option<Vec<u8>>, AllocError> {
+    match hex::decode(alloc, text) {
+        Ok(bytes) => Ok(Some(bytes)),
+        Err(hex::FromHexError::OutOfMemory) => Err(AllocError),
+        Err(_) => Ok(None),
+    }
+}
+
+/// The text of a deployment as its case writes it over; none where there is no such text, or nothing to write over.
+pub fn text_of_config(
+    alloc: Global,
+    texts: &Texts,
+    case: &str,
+) -> Result<Option<String>, AllocError> {
+    let Some((name, edit)) = case.split_once(' ') else {
+        return match texts.named(case) {
+            Some(text) => Ok(Some(String::from_str(alloc, text)?)),
+            None => Ok(None),
+        };
+    };
+    let (Some(text), Some((old, new))) = (texts.named(name), edit.split_once(" => ")) else {
+        return Ok(None);
+    };
+    let old = with_control(alloc, old)?;
+    let Some((before, behind)) = text.split_once(old.as_str()) else {
+        return Ok(None);
+    };
+    let new = with_control(alloc, new)?;
+    Ok(Some(format!(in alloc; "{before}{new}{behind}")?))
+}
+
+/// The text with a line feed for each `\n`, a tab for each `\t` and a carriage return for each `\r`.
+pub fn with_control(alloc: Global, text: &str) -> Result<String, AllocError> {
+    text.replace(alloc, "\\n", "\n")?
+        .replace(alloc, "\\t", "\t")?
+        .replace(alloc, "\\r", "\r")
+}
