@@ -6,4 +6,5 @@ pub mod Printed
 pub mod Ranges
 pub mod Decided
 pub mod Judging
+pub mod Conditions
 pub mod Following

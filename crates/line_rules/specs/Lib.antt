@@ -5,5 +5,6 @@ pub mod Names
 pub mod Rules
 pub mod Tests
 pub mod Verdict
+pub mod Conditions
 pub mod Follows
 pub mod Rows

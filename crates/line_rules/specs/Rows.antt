@@ -1,6 +1,7 @@
 -- Worked lines by hand, and lists of lines that are at fault.
-use Rattle.std.specs.Prelude.{ℕ, ◌+◌, ◌-◌, ◌^◌, List, [], ◌∷◌, ◌++◌, length, map, take, drop, codes, Some, None}
+use Rattle.std.specs.Prelude.{ℕ, ◌+◌, ◌-◌, ◌^◌, List, [], ◌∷◌, ◌++◌, length, map, replicate, take, drop, codes, Some, None}
 use Rattle.mrp_types.specs.declared.id.NodeId.{NodeId}
+use Rattle.mrp_types.specs.declared.id.Party.{Party}
 use Rattle.mrp_types.specs.declared.id.Party.TheVariants as party
 use Rattle.mrp_types.specs.declared.value.Entry.{Entry}
 use Rattle.mrp_types.specs.declared.value.Value.{Value}
@@ -17,6 +18,8 @@ use Rattle.transcript.specs.declared.line.Line.{Line}
 use Rattle.transcript.specs.declared.line.Line.TheVariants.{Learn, Deliver, Reply, Answer, Busy, Begin, Chose, Restore, Saved, Trim, Refuse, BallotLimit, InstanceLimit, AttemptLimit, Down, Up, State, Frame, End}
 use Rattle.line_rules.specs.Scanners.{past}
 use Rattle.line_rules.specs.Names.{Rule}
+use Rattle.line_rules.specs.Names as rule
+use Rattle.line_rules.specs.Conditions.{failures}
 use Rattle.line_rules.specs.Verdict.{Verdict, Broken, verdict_after}
 
 -- ---- a deployment
@@ -152,167 +155,246 @@ a_run =
     End 20 ∷
     []
 
+-- ---- two partitions
+
+-- Node 0 and node 1 replicate the keys below m and log 0, node 2 the others and log 1; both partitions subscribe to both rings.
+abbrev pub wide : Config
+wide = record three {
+  rings = ring_of 0 ∷ ring_of 1 ∷ [];
+  partitions =
+      (record { id = record { 0 = 0 }; replicas = node 0 ∷ node 1 ∷ []; rings = ring 0 ∷ ring 1 ∷ []; home = ring 0; from = []; to = codes "m"; logs = log 0 ∷ []; trim_quorum = 1; recovery_quorum = 2 }) ∷
+      (record { id = record { 0 = 1 }; replicas = node 2 ∷ []; rings = ring 0 ∷ ring 1 ∷ []; home = ring 1; from = codes "m"; to = []; logs = log 1 ∷ []; trim_quorum = 1; recovery_quorum = 1 }) ∷ [];
+}
+
+-- A replica of each partition begins, one goes on from nothing, and it learns a skip on either ring.
+abbrev pub wide_run : List Line
+wide_run =
+    Up (node 0) 1 ∷
+    Begin (node 0) 1 1 (0 ∷ 0 ∷ []) ∷
+    Chose (node 0) 1 1 (0 ∷ 0 ∷ []) (node 0) ∷
+    Restore (node 0) (0 ∷ 0 ∷ []) ∷
+    Up (node 2) 1 ∷
+    Begin (node 2) 1 1 (0 ∷ 0 ∷ []) ∷
+    Learn (node 0) (ring 0) 0 1 Skip ∷
+    Learn (node 0) (ring 1) 0 1 Skip ∷
+    Up (node 1) 1 ∷
+    []
+
+-- the state of the first partition before any command: no client; log 0, trimmed nowhere and empty; an empty table
+abbrev pub no_state : List ℕ
+no_state = 0 ∷ 0 ∷ 1 ∷ replicate 25 0
+
 -- ---- lines at fault
 
--- So many lines of the run, which are faithful, and some others, of which the last is the first at fault.
+-- a deployment, and faithful lines of it
+pub record Setting : Type 0 where
+  pub config : Config
+  pub lines : List Line
+
+abbrev pub of_a_run : Setting
+of_a_run = record { config = spare; lines = a_run }
+
+abbrev pub of_two : Setting
+of_two = record { config = wide; lines = wide_run }
+
+-- So many lines of a setting, some more, and a line which is the first at fault; and the conditions that it fails, each with its
+-- rule and its number.
 pub record Case : Type 0 where
+  pub setting : Setting
   pub front : ℕ
-  pub others : List Line
+  pub more : List Line
+  pub line : Line
+  pub fails : List (Rule × ℕ)
 
 abbrev pub judged : Case → Verdict
-judged x = verdict_after spare (past [] (take x.front a_run)) x.front x.others
+judged x = verdict_after x.setting.config (past [] (take x.front x.setting.lines)) x.front (x.more ++ x.line ∷ [])
 
 abbrev pub fault : Rule → Case → Verdict
-fault rule x = Broken (x.front + length x.others) rule
+fault name x = Broken (x.front + length x.more + 1) name
+
+abbrev pub failed : Case → List (Rule × ℕ)
+failed x = failures x.setting.config (past (past [] (take x.front x.setting.lines)) x.more) x.line
 
 -- what the cases are judged, and what is wanted
-abbrev pub are_judged : List Case → List Verdict
-are_judged cases = map judged cases
+abbrev pub are_judged : List Case → List (Verdict × List (Rule × ℕ))
+are_judged cases = map (λ (x : Case). (judged x, failed x)) cases
 
-abbrev pub are_faults : Rule → List Case → List Verdict
-are_faults rule cases = map (fault rule) cases
+abbrev pub are_faults : Rule → List Case → List (Verdict × List (Rule × ℕ))
+are_faults name cases = map (λ (x : Case). (fault name x, x.fails)) cases
 
--- one line behind a front
-abbrev pub behind : ℕ → Line → Case
-behind front line = record { front = front; others = line ∷ [] }
+-- one line, behind so many lines of the run and some more, that fails these conditions
+abbrev pub fails : List (Rule × ℕ) → ℕ → List Line → Line → Case
+fails conditions front more line = record { setting = of_a_run; front = front; more = more; line = line; fails = conditions }
+
+-- one that fails a single condition of a single rule
+abbrev pub alone : Rule → ℕ → ℕ → List Line → Line → Case
+alone name condition front more line = fails ((name, condition) ∷ []) front more line
+
+-- the same in the deployment of two partitions
+abbrev pub alone_of_two : Rule → ℕ → ℕ → List Line → Line → Case
+alone_of_two name condition front more line = record { setting = of_two; front = front; more = more; line = line; fails = (name, condition) ∷ [] }
+
+-- what the first command of client 9 or 1 is, on a log
+abbrev pub asks : ℕ → ℕ → Value
+asks number id = batch (asked_by number 1 (Append (log id) (codes "hi")) ∷ [])
+
+-- A frame between two.
+abbrev pub between : Party → Party → Line
+between from to = Frame 0 (Some (record { from = from; to = to; bytes = [] }))
+
+-- Each condition that a line can fail alone is failed alone by one. The others never are: the position of a ready node is a valid
+-- tuple, and so is the tuple of a place; a ready node has told a tuple of each of its rings, so that a saved line with another
+-- number of entries isn't past it; a reply that is owed is of a node and a ring that are there; a tuple that a replica told, or that
+-- was chosen, is a valid one with an entry for each ring; and no partition subscribes to a ring that isn't there.
 
 -- a node and a ring of another deployment, an empty range, one past the end, a batch for two instances, another value than the
 -- book has, and one that it has for some instances of the range alone
 abbrev pub faults_1 : List Case
 faults_1 =
-    behind 12 (Learn (node 9) (ring 0) 0 1 Skip) ∷
-    behind 12 (Learn (node 0) (ring 9) 0 1 Skip) ∷
-    behind 12 (Learn (node 0) (ring 0) 1 1 Skip) ∷
-    behind 12 (Learn (node 0) (ring 0) 0 (2 ^ 40 + 1) Skip) ∷
-    behind 12 (Learn (node 0) (ring 0) 0 2 (batch (hi ∷ []))) ∷
-    behind 19 (Learn (node 0) (ring 0) 0 1 (batch (ok ∷ []))) ∷
-    behind 19 (Learn (node 0) (ring 0) 0 9 Skip) ∷ []
+    alone rule.F1 1 12 [] (Learn (node 9) (ring 0) 0 1 Skip) ∷
+    alone rule.F1 2 12 [] (Learn (node 0) (ring 9) 0 1 Skip) ∷
+    alone rule.F1 3 12 [] (Learn (node 0) (ring 0) 1 1 Skip) ∷
+    alone rule.F1 4 12 [] (Learn (node 0) (ring 0) 0 (2 ^ 40 + 1) Skip) ∷
+    alone rule.F1 5 12 [] (Learn (node 0) (ring 0) 0 2 (batch (hi ∷ []))) ∷
+    alone rule.F1 6 19 [] (Learn (node 0) (ring 0) 0 1 (batch (ok ∷ []))) ∷
+    alone rule.F1 6 19 [] (Learn (node 0) (ring 0) 0 9 Skip) ∷ []
 
 -- Deliveries: of a node that is no replica, of one that isn't ready, of what isn't learned, of a skip, on a ring to which the
--- partition doesn't subscribe, of what was delivered, and past what isn't learned. Checkpoints: of a node that isn't ready, of two
--- rings, behind the position, and past what isn't learned.
+-- partition doesn't subscribe, of what was delivered, past what isn't learned, and past a command. Checkpoints: of a node that is no
+-- replica, of one that isn't ready, of two rings, of a tuple that no number of moves leaves, behind the position, both of what was
+-- told and not, and past what isn't learned.
 abbrev pub faults_2 : List Case
 faults_2 =
-    behind 13 (Deliver (node 9) (ring 0) 0) ∷
-    behind 13 (Deliver (node 2) (ring 0) 0) ∷
-    behind 12 (Deliver (node 0) (ring 0) 0) ∷
-    behind 19 (Deliver (node 1) (ring 0) 1) ∷
-    (record { front = 12; others = Learn (node 0) (ring 1) 0 1 (batch (hi ∷ [])) ∷ Deliver (node 0) (ring 1) 0 ∷ [] }) ∷
-    behind 15 (Deliver (node 0) (ring 0) 0) ∷
-    (record { front = 15; others = Learn (node 0) (ring 0) 2 3 (batch (ok ∷ [])) ∷ Deliver (node 0) (ring 0) 2 ∷ [] }) ∷
-    behind 12 (Saved (node 2) (0 ∷ [])) ∷
-    behind 20 (Saved (node 0) (1 ∷ 1 ∷ [])) ∷
-    behind 20 (Saved (node 0) (0 ∷ [])) ∷
-    behind 20 (Saved (node 0) (4 ∷ [])) ∷ []
+    alone rule.F2 1 13 [] (Deliver (node 9) (ring 0) 0) ∷
+    alone rule.F2 2 13 [] (Deliver (node 2) (ring 0) 0) ∷
+    alone rule.F2 3 12 [] (Deliver (node 0) (ring 0) 0) ∷
+    alone rule.F2 3 19 [] (Deliver (node 1) (ring 0) 1) ∷
+    alone rule.F2 4 15 (Learn (node 0) (ring 1) 0 1 (batch (ok ∷ [])) ∷ []) (Deliver (node 0) (ring 1) 0) ∷
+    alone rule.F2 7 15 [] (Deliver (node 0) (ring 0) 0) ∷
+    alone rule.F2 8 15 (Learn (node 0) (ring 0) 2 3 (batch (ok ∷ [])) ∷ []) (Deliver (node 0) (ring 0) 2) ∷
+    alone rule.F2 8 15 (Learn (node 0) (ring 0) 1 2 (batch (ok ∷ [])) ∷ Learn (node 0) (ring 0) 2 3 (batch (ok ∷ [])) ∷ []) (Deliver (node 0) (ring 0) 2) ∷
+    alone rule.F2 1 12 [] (Saved (node 9) (0 ∷ [])) ∷
+    alone rule.F2 2 12 (Learn (node 0) (ring 0) 0 1 Skip ∷ []) (Saved (node 2) (1 ∷ [])) ∷
+    fails ((rule.F2, 3) ∷ (rule.F8, 1) ∷ []) 20 [] (Saved (node 0) (1 ∷ 1 ∷ [])) ∷
+    alone_of_two rule.F2 5 9 [] (Saved (node 0) (0 ∷ 1 ∷ [])) ∷
+    alone rule.F2 6 15
+    (Learn (node 0) (ring 0) 1 2 (batch (ok ∷ [])) ∷ Deliver (node 0) (ring 0) 1 ∷ Reply (node 0) (ring 0) 1 0 (client 1) 1 ok_reply ∷ [])
+    (Saved (node 0) (1 ∷ [])) ∷
+    fails ((rule.F2, 6) ∷ (rule.F8, 1) ∷ []) 20 [] (Saved (node 0) (0 ∷ [])) ∷
+    alone rule.F2 7 20 [] (Saved (node 0) (4 ∷ [])) ∷ []
 
--- Another reply, at another index, of another node, to another client, under another number, at another ring or instance; another line while one is owed; a reply
--- that isn't owed; and names of another deployment, among them that of a client whose command was ordered.
+-- Another reply, at another index, of another node, to another client, under another number, at another ring or instance; another
+-- line while one is owed; a reply that isn't owed; and names of another deployment, among them that of a client whose command was
+-- ordered.
 abbrev pub faults_3 : List Case
 faults_3 =
-    behind 14 (Reply (node 0) (ring 0) 0 0 (client 0) 1 ok_reply) ∷
-    behind 14 (Reply (node 0) (ring 0) 0 1 (client 0) 1 hi_reply) ∷
-    behind 14 (Reply (node 1) (ring 0) 0 0 (client 0) 1 hi_reply) ∷
-    behind 14 (Reply (node 0) (ring 0) 0 0 (client 1) 1 hi_reply) ∷
-    behind 14 (Reply (node 0) (ring 0) 0 0 (client 0) 2 hi_reply) ∷
-    behind 14 (Reply (node 0) (ring 1) 0 0 (client 0) 1 hi_reply) ∷
-    behind 14 (Reply (node 0) (ring 0) 1 0 (client 0) 1 hi_reply) ∷
-    behind 14 (Up (node 1) 2) ∷
-    behind 14 (Learn (node 1) (ring 0) 1 3 Skip) ∷
-    behind 15 (Reply (node 0) (ring 0) 0 0 (client 0) 1 hi_reply) ∷
-    (record {
-      front = 12;
-      others =
-          Learn (node 0) (ring 0) 0 1 (batch (asked_by 9 1 (Append (log 0) (codes "hi")) ∷ [])) ∷ Deliver (node 0) (ring 0) 0 ∷
-          Reply (node 0) (ring 0) 0 0 (client 9) 1 hi_reply ∷ [];
-    }) ∷
-    behind 30 (Busy (client 9) 1) ∷
-    behind 30 (Up (node 9) 1) ∷
-    behind 30 (Down (node 9) Crash) ∷
-    behind 30 (AttemptLimit (node 9)) ∷
-    behind 30 (BallotLimit (node 9) (ring 0)) ∷
-    behind 30 (InstanceLimit (node 0) (ring 9)) ∷
-    behind 30 (Frame 0 (Some (record { from = party.Node (node 9); to = party.Client (client 0); bytes = [] }))) ∷
-    behind 30 (Frame 0 (Some (record { from = party.Node (node 0); to = party.Client (client 9); bytes = [] }))) ∷ []
+    alone rule.F3 1 14 [] (Reply (node 0) (ring 0) 0 0 (client 0) 1 ok_reply) ∷
+    alone rule.F3 1 14 [] (Reply (node 0) (ring 0) 0 1 (client 0) 1 hi_reply) ∷
+    alone rule.F3 1 14 [] (Reply (node 1) (ring 0) 0 0 (client 0) 1 hi_reply) ∷
+    alone rule.F3 1 14 [] (Reply (node 0) (ring 0) 0 0 (client 1) 1 hi_reply) ∷
+    alone rule.F3 1 14 [] (Reply (node 0) (ring 0) 0 0 (client 0) 2 hi_reply) ∷
+    alone rule.F3 1 14 [] (Reply (node 0) (ring 1) 0 0 (client 0) 1 hi_reply) ∷
+    alone rule.F3 1 14 [] (Reply (node 0) (ring 0) 1 0 (client 0) 1 hi_reply) ∷
+    alone rule.F3 1 14 [] (Up (node 1) 2) ∷
+    alone rule.F3 1 14 [] (Learn (node 1) (ring 0) 1 3 Skip) ∷
+    alone rule.F3 1 15 [] (Reply (node 0) (ring 0) 0 0 (client 0) 1 hi_reply) ∷
+    alone rule.F3 4 12 (Learn (node 0) (ring 0) 0 1 (asks 9 0) ∷ Deliver (node 0) (ring 0) 0 ∷ []) (Reply (node 0) (ring 0) 0 0 (client 9) 1 hi_reply) ∷
+    alone rule.F3 2 30 [] (Busy (client 9) 1) ∷
+    alone rule.F3 2 30 [] (Up (node 9) 1) ∷
+    alone rule.F3 2 30 [] (Down (node 9) Crash) ∷
+    alone rule.F3 2 30 [] (AttemptLimit (node 9)) ∷
+    alone rule.F3 2 30 [] (BallotLimit (node 9) (ring 0)) ∷
+    alone rule.F3 3 30 [] (BallotLimit (node 0) (ring 9)) ∷
+    alone rule.F3 2 30 [] (InstanceLimit (node 9) (ring 0)) ∷
+    alone rule.F3 3 30 [] (InstanceLimit (node 0) (ring 9)) ∷
+    alone rule.F3 2 30 [] (between (party.Node (node 9)) (party.Client (client 0))) ∷
+    alone rule.F3 3 30 [] (between (party.Node (node 0)) (party.Client (client 9))) ∷ []
 
--- Other bytes, a node that isn't ready, a tuple behind the position, one past what isn't learned, one of two rings, and no bytes of a ready node and of one of
--- another deployment.
+-- With bytes: of a node that is no replica, of one that isn't ready, a tuple of two rings, one that no number of moves leaves, one
+-- behind the position, one past a command, one past what isn't learned, and other bytes. Without: of a node of another deployment,
+-- and of a ready one.
+abbrev pub shown : ℕ → List ℕ → List ℕ → Line
+shown n tuple bytes = State (node n) (Some (record { tuple = tuple; bytes = bytes }))
+
 abbrev pub faults_4 : List Case
 faults_4 =
-    behind 20 (State (node 0) (Some (record { tuple = 1 ∷ []; bytes = [] }))) ∷
-    behind 20 (State (node 2) (Some (record { tuple = 1 ∷ []; bytes = hi_state }))) ∷
-    behind 20 (State (node 0) (Some (record { tuple = 0 ∷ []; bytes = hi_state }))) ∷
-    behind 20 (State (node 0) (Some (record { tuple = 4 ∷ []; bytes = hi_state }))) ∷
-    behind 20 (State (node 0) (Some (record { tuple = 1 ∷ 1 ∷ []; bytes = hi_state }))) ∷
-    behind 20 (State (node 0) None) ∷
-    behind 20 (State (node 9) None) ∷ []
+    alone rule.F4 1 20 [] (shown 9 (1 ∷ []) hi_state) ∷
+    alone rule.F4 2 12 [] (shown 2 (0 ∷ []) no_state) ∷
+    alone rule.F4 3 20 [] (shown 0 (1 ∷ 1 ∷ []) hi_state) ∷
+    alone_of_two rule.F4 5 9 [] (shown 0 (0 ∷ 1 ∷ []) no_state) ∷
+    alone rule.F4 6 20 [] (shown 0 (0 ∷ []) no_state) ∷
+    alone rule.F4 7 15 (Learn (node 0) (ring 0) 1 2 (batch []) ∷ []) (shown 0 (2 ∷ []) hi_state) ∷
+    fails ((rule.F4, 7) ∷ (rule.F4, 8) ∷ []) 20 [] (shown 0 (4 ∷ []) hi_state) ∷
+    alone rule.F4 8 20 [] (shown 0 (1 ∷ []) []) ∷
+    alone rule.F4 1 20 [] (State (node 9) None) ∷
+    alone rule.F4 2 20 [] (State (node 0) None) ∷ []
 
--- What isn't ordered, another reply, a client of another deployment, a number that wasn't asked, a command that concerns no
+-- A client of another deployment, what isn't ordered, another reply, a number that wasn't asked, a command that concerns no
 -- partition, one on a ring to which its partition doesn't subscribe, and one whose place stands behind what isn't learned.
 abbrev pub faults_5 : List Case
 faults_5 =
-    behind 12 (Answer (client 0) 1 hi_reply) ∷
-    behind 19 (Answer (client 0) 1 ok_reply) ∷
-    (record {
-      front = 12;
-      others =
-          Learn (node 0) (ring 0) 0 1 (batch (asked_by 9 1 (Append (log 0) (codes "hi")) ∷ [])) ∷ Answer (client 9) 1 hi_reply ∷ [];
-    }) ∷
-    behind 19 (Answer (client 0) 2 ok_reply) ∷
-    (record {
-      front = 12;
-      others =
-          Learn (node 0) (ring 0) 0 1 (batch (asked_by 1 1 (Append (log 9) (codes "hi")) ∷ [])) ∷ Answer (client 1) 1 hi_reply ∷ [];
-    }) ∷
-    (record { front = 12; others = Learn (node 0) (ring 1) 0 1 (batch (hi ∷ [])) ∷ Answer (client 0) 1 hi_reply ∷ [] }) ∷
-    (record { front = 15; others = Learn (node 0) (ring 0) 2 3 (batch (ok ∷ [])) ∷ Answer (client 1) 1 ok_reply ∷ [] }) ∷ []
+    alone rule.F5 1 12 (Learn (node 0) (ring 0) 0 1 (asks 9 0) ∷ []) (Answer (client 9) 1 hi_reply) ∷
+    alone rule.F5 2 12 [] (Answer (client 0) 1 hi_reply) ∷
+    alone rule.F5 2 19 [] (Answer (client 0) 1 ok_reply) ∷
+    alone rule.F5 2 19 [] (Answer (client 0) 2 ok_reply) ∷
+    alone rule.F5 2 12 (Learn (node 0) (ring 0) 0 1 (asks 1 9) ∷ []) (Answer (client 1) 1 hi_reply) ∷
+    alone rule.F5 2 12 (Learn (node 0) (ring 1) 0 1 (batch (hi ∷ [])) ∷ []) (Answer (client 0) 1 hi_reply) ∷
+    alone rule.F5 2 15 (Learn (node 0) (ring 0) 2 3 (batch (ok ∷ [])) ∷ []) (Answer (client 1) 1 ok_reply) ∷ []
 
--- Choices: of another attempt, of another epoch, after a restore, not past a trim before the attempt, of a tuple that the other
--- never told, of one that is no replica, and of two rings. Restores: with no choice, of another tuple, of a ready node, and after a
--- crash.
+-- Choices: of a node that is no replica, of another attempt, of another epoch, after a restore, not past a trim before the attempt,
+-- of a replica of another partition, of a tuple that the other never told, of one that is no replica, and of two rings. Restores: of a
+-- node that is no replica, of a ready node, with no choice, of another tuple, and after a crash.
 abbrev pub faults_6 : List Case
 faults_6 =
-    behind 6 (Chose (node 0) 1 2 (0 ∷ []) (node 0)) ∷
-    behind 6 (Chose (node 0) 2 1 (0 ∷ []) (node 0)) ∷
-    behind 8 (Chose (node 0) 1 1 (0 ∷ []) (node 0)) ∷
-    behind 28 (Chose (node 2) 2 1 (0 ∷ []) (node 0)) ∷
-    behind 28 (Chose (node 2) 2 1 (1 ∷ []) (node 1)) ∷
-    behind 6 (Chose (node 0) 1 1 (0 ∷ []) (node 9)) ∷
-    behind 6 (Chose (node 0) 1 1 (0 ∷ 0 ∷ []) (node 0)) ∷
-    behind 6 (Restore (node 0) (0 ∷ [])) ∷
-    behind 7 (Restore (node 0) (1 ∷ [])) ∷
-    behind 8 (Restore (node 0) (0 ∷ [])) ∷
-    (record { front = 29; others = Down (node 2) Crash ∷ Restore (node 2) (1 ∷ []) ∷ [] }) ∷ []
+    alone rule.F6 1 6 [] (Chose (node 9) 1 1 (0 ∷ []) (node 0)) ∷
+    alone rule.F6 4 6 [] (Chose (node 0) 1 2 (0 ∷ []) (node 0)) ∷
+    alone rule.F6 4 6 [] (Chose (node 0) 2 1 (0 ∷ []) (node 0)) ∷
+    alone rule.F6 4 8 [] (Chose (node 0) 1 1 (0 ∷ []) (node 0)) ∷
+    alone rule.F6 5 28 [] (Chose (node 2) 2 1 (0 ∷ []) (node 0)) ∷
+    alone_of_two rule.F6 6 6 [] (Chose (node 2) 1 1 (0 ∷ 0 ∷ []) (node 0)) ∷
+    alone rule.F6 7 28 [] (Chose (node 2) 2 1 (1 ∷ []) (node 1)) ∷
+    fails ((rule.F6, 6) ∷ (rule.F6, 7) ∷ []) 6 [] (Chose (node 0) 1 1 (0 ∷ []) (node 9)) ∷
+    fails ((rule.F6, 2) ∷ (rule.F6, 7) ∷ []) 6 [] (Chose (node 0) 1 1 (0 ∷ 0 ∷ []) (node 0)) ∷
+    alone rule.F6 1 7 [] (Restore (node 9) (0 ∷ [])) ∷
+    alone rule.F6 4 8 [] (Restore (node 0) (0 ∷ [])) ∷
+    alone rule.F6 5 6 [] (Restore (node 0) (0 ∷ [])) ∷
+    alone rule.F6 5 7 [] (Restore (node 0) (1 ∷ [])) ∷
+    alone rule.F6 5 29 (Down (node 2) Crash ∷ []) (Restore (node 2) (1 ∷ [])) ∷ []
 
--- None saved, one of two, one of them not so far; a node and a ring of another deployment, and a ring to which no partition
--- subscribes.
+-- A node and a ring of another deployment, a ring to which no partition subscribes; none saved, one of two, one of them not so far,
+-- and one of two partitions.
 abbrev pub faults_7 : List Case
 faults_7 =
-    behind 20 (Trim (node 0) (ring 0) 1) ∷
-    behind 21 (Trim (node 0) (ring 0) 1) ∷
-    behind 22 (Trim (node 0) (ring 0) 2) ∷
-    behind 22 (Trim (node 9) (ring 0) 1) ∷
-    behind 22 (Trim (node 0) (ring 9) 0) ∷
-    behind 22 (Trim (node 0) (ring 1) 0) ∷ []
+    alone rule.F7 1 22 [] (Trim (node 9) (ring 0) 1) ∷
+    fails ((rule.F7, 2) ∷ (rule.F7, 3) ∷ []) 22 [] (Trim (node 0) (ring 9) 0) ∷
+    alone rule.F7 3 22 [] (Trim (node 0) (ring 1) 0) ∷
+    alone rule.F7 4 20 [] (Trim (node 0) (ring 0) 1) ∷
+    alone rule.F7 4 21 [] (Trim (node 0) (ring 0) 1) ∷
+    alone rule.F7 4 22 [] (Trim (node 0) (ring 0) 2) ∷
+    alone_of_two rule.F7 4 9 (Saved (node 0) (1 ∷ 1 ∷ []) ∷ []) (Trim (node 0) (ring 0) 1) ∷ []
 
--- Attempts: behind what was saved, of an epoch that isn't the last, of one that is down, of a number that was begun, past what
--- isn't learned, of two rings, and of a node that is no replica. And a checkpoint saved again.
+-- Attempts: of a node that is no replica, of two rings, before and after another, of a tuple that no number of moves leaves, behind
+-- what was saved, of an epoch that isn't the last, of one that is down, of a number that was begun, and past what isn't learned. And
+-- a checkpoint saved again.
 abbrev pub faults_8 : List Case
 faults_8 =
-    (record { front = 24; others = Up (node 0) 2 ∷ Begin (node 0) 2 1 (0 ∷ []) ∷ [] }) ∷
-    behind 26 (Begin (node 2) 1 3 (0 ∷ [])) ∷
-    behind 25 (Begin (node 2) 1 3 (0 ∷ [])) ∷
-    behind 11 (Begin (node 2) 1 1 (0 ∷ [])) ∷
-    behind 26 (Begin (node 2) 2 1 (4 ∷ [])) ∷
-    behind 26 (Begin (node 2) 2 1 (0 ∷ 0 ∷ [])) ∷
-    behind 26 (Begin (node 9) 2 1 (0 ∷ [])) ∷
-    behind 21 (Saved (node 0) (1 ∷ [])) ∷ []
+    alone rule.F8 1 26 [] (Begin (node 9) 2 1 (0 ∷ [])) ∷
+    alone rule.F8 2 1 [] (Begin (node 0) 1 1 (0 ∷ 0 ∷ [])) ∷
+    fails ((rule.F8, 2) ∷ (rule.F8, 4) ∷ []) 26 [] (Begin (node 2) 2 1 (0 ∷ 0 ∷ [])) ∷
+    alone_of_two rule.F8 3 9 [] (Begin (node 1) 1 1 (0 ∷ 1 ∷ [])) ∷
+    alone rule.F8 4 24 (Up (node 0) 2 ∷ []) (Begin (node 0) 2 1 (0 ∷ [])) ∷
+    alone rule.F8 5 26 [] (Begin (node 2) 1 3 (0 ∷ [])) ∷
+    alone rule.F8 5 25 [] (Begin (node 2) 1 3 (0 ∷ [])) ∷
+    alone rule.F8 6 11 [] (Begin (node 2) 1 1 (0 ∷ [])) ∷
+    alone rule.F8 7 26 [] (Begin (node 2) 2 1 (4 ∷ [])) ∷
+    alone rule.F8 1 21 [] (Saved (node 0) (1 ∷ [])) ∷ []
 
--- Enough answers, another quorum, another attempt, one that has chosen, one that is down, and a node that is no replica.
+-- A node that is no replica, another attempt, one that has chosen, one that is down, another quorum, and enough answers.
 abbrev pub faults_9 : List Case
 faults_9 =
-    behind 10 (Refuse (node 2) 1 1 2 2) ∷
-    behind 10 (Refuse (node 2) 1 1 1 3) ∷
-    behind 10 (Refuse (node 2) 1 2 1 2) ∷
-    behind 10 (Refuse (node 0) 1 1 1 2) ∷
-    behind 25 (Refuse (node 2) 1 2 1 2) ∷
-    behind 10 (Refuse (node 9) 1 1 1 2) ∷ []
+    alone rule.F9 1 10 [] (Refuse (node 9) 1 1 1 2) ∷
+    alone rule.F9 2 10 [] (Refuse (node 2) 1 2 1 2) ∷
+    alone rule.F9 2 10 [] (Refuse (node 0) 1 1 1 2) ∷
+    alone rule.F9 2 25 [] (Refuse (node 2) 1 2 1 2) ∷
+    alone rule.F9 3 10 [] (Refuse (node 2) 1 1 1 3) ∷
+    alone rule.F9 4 10 [] (Refuse (node 2) 1 1 2 2) ∷ []

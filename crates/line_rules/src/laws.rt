@@ -17,11 +17,17 @@ ghost use Rattle.line_rules.specs.Follows.{AreInOrder, IsOrdered, delivered};
 ghost use Rattle.line_rules.specs.Rules.{AreFaithful, Answers, Keeps, IsFaithful};
 ghost use Rattle.line_rules.specs.Scanners.{Has, before_attempt, begun, book, learned, told, touches};
 ghost use Rattle.line_rules.specs.Scanners as scanners;
+ghost use Rattle.line_rules.specs.Conditions.{all_hold, conditions};
 ghost use Rattle.line_rules.specs.Verdict.{Faithful, Broken, keeps, verdict, FirstFault};
 
 /// Each test decides its rule.
 pub fn tests_decide_rules()
     ensures { (c : Config) → IsValid c → (name : Rule) (before : List Line) (line : Line) → IsTrue (keeps name c before line) ↔ Keeps name c before line }
+{}
+
+/// The test of a rule is that all of its conditions hold.
+pub fn conditions_make_tests()
+    ensures { (name : Rule) (c : Config) (before : List Line) (line : Line) → all_hold (conditions name c before line) ≡ keeps name c before line }
 {}
 
 /// The verdict is that all lines are faithful exactly where they are. Where it names a line and a rule, the lines before that line

@@ -3,7 +3,7 @@
 ghost use Rattle.std.specs.Prelude.{◌≡◌};
 ghost use Rattle.line_rules.specs.Verdict.{Faithful, Broken, verdict};
 ghost use Rattle.line_rules.specs.Names as rule;
-ghost use Rattle.line_rules.specs.Rows.{three, spare, two_coordinators, other_value, a_run, are_judged, are_faults, faults_1, faults_2, faults_3, faults_4, faults_5, faults_6, faults_7, faults_8, faults_9};
+ghost use Rattle.line_rules.specs.Rows.{three, spare, wide, wide_run, two_coordinators, other_value, a_run, are_judged, are_faults, faults_1, faults_2, faults_3, faults_4, faults_5, faults_6, faults_7, faults_8, faults_9};
 
 /// The lines of two coordinators; and where the second node that learns the first command learns another value.
 pub fn two_coordinators_are_faithful()
@@ -16,7 +16,13 @@ pub fn a_run_is_faithful()
     ensures { verdict spare a_run ≡ Faithful 37 }
 {}
 
-/// For each rule, lines at fault behind a front of that run.
+/// Two partitions of two rings.
+pub fn two_partitions_are_faithful()
+    ensures { verdict wide wide_run ≡ Faithful 9 }
+{}
+
+/// For each rule, lines at fault behind faithful ones: the rule that is printed, and each condition that the line fails. Each
+/// condition that a line can fail alone is the only one of some line here.
 pub fn broken_lines()
     ensures f1 { are_judged faults_1 ≡ are_faults rule.F1 faults_1 }
     ensures f2 { are_judged faults_2 ≡ are_faults rule.F2 faults_2 }
