@@ -31,6 +31,3 @@ pub use joining::join;
 pub use lists::{Entries, LogPositions, Logs, TableEntries};
 pub use reply::{LogPosition, Reply, TableEntry, write_reply};
 pub use reply_reading::read_reply;
-
-#[cfg(test)]
-mod tests;
