@@ -8,7 +8,8 @@
 //! areas after a compaction behind that.
 //!
 //! `line TEXT` is a line of a transcript, `events NAME TEXT` a schedule over the deployment of that name, and `asked NAME TEXT` the text
-//! of a client. What is read is written again too. The number behind a fault is that of its line. In these texts, and in OLD and NEW, `\n` stands for a line feed, `\t` for a tab and `\r` for a carriage return.
+//! of a client. What is read is written again too. The number behind a fault is that of its line. In these texts, and in OLD and NEW,
+//! `\n` stands for a line feed, `\t` for a tab and `\r` for a carriage return.
 //!
 //! A case is printed again, and behind ` : ` what its reader answers: `ok`, or the kind of the first fault with what it names, or
 //! `no case` where the line is none. Empty lines, lines that begin with `#`, and texts are no cases, and nothing is printed of them.
