@@ -5,7 +5,7 @@ ghost use Rattle.std.specs.Option.{option_map};
 ghost use Rattle.std.specs.List.{flat_map};
 ghost use Rattle.command_codec.specs.Replies.{IsReply, AreParts, joined, first_other, is_other, positions_of, entries_of, has_more, until_more, some_more, positions_reply, entries_reply, starts_with_positions};
 
-use crate::{LogPosition, LogPositions, Reply, TableEntries, TableEntry};
+use crate::{LogPositions, Reply, TableEntries, TableEntry};
 use mrp_types::Memory;
 use std::alloc::Global;
 
@@ -57,18 +57,18 @@ fn first_has_positions(parts: &[Reply]) -> bool
 fn join_positions(alloc: Global, parts: &[Reply]) -> Result<Reply, Memory>
     ensures { IfOk result (λ reply. reply ≡ positions_reply parts.now) }
 {
-    let mut all = Vec::new(alloc);
+    let mut all = LogPositions::new(alloc);
     for part in parts {
         add_positions(&mut all, part)?;
     }
-    Ok(Reply::Positions(LogPositions::from_vec(all)))
+    Ok(Reply::Positions(all))
 }
 
-fn add_positions(all: &mut Vec<LogPosition>, part: &Reply) -> Result<(), Memory>
-    ensures { OnOk result (all.new.items ≡ all.old.items ++ positions_of part.now) }
+fn add_positions(all: &mut LogPositions, part: &Reply) -> Result<(), Memory>
+    ensures { OnOk result (all.new ≡ all.old ++ positions_of part.now) }
 {
     match part {
-        Reply::Positions(positions) => Ok(all.extend_from_slice(positions.items())?),
+        Reply::Positions(positions) => all.extend(positions.items()),
         _ => Ok(()),
     }
 }
@@ -76,19 +76,19 @@ fn add_positions(all: &mut Vec<LogPosition>, part: &Reply) -> Result<(), Memory>
 fn join_entries(alloc: Global, parts: &[Reply]) -> Result<Reply, Memory>
     ensures { IfOk result (λ reply. reply ≡ entries_reply parts.now) }
 {
-    let mut all = Vec::new(alloc);
+    let mut all = TableEntries::new(alloc);
     for part in parts {
         add_entries(alloc, &mut all, part)?;
         if left_out(part) {
             return Ok(Reply::Entries {
                 more: true,
-                entries: TableEntries::from_vec(all),
+                entries: all,
             });
         }
     }
     Ok(Reply::Entries {
         more: false,
-        entries: TableEntries::from_vec(all),
+        entries: all,
     })
 }
 
@@ -101,8 +101,8 @@ fn left_out(part: &Reply) -> bool
     }
 }
 
-fn add_entries(alloc: Global, all: &mut Vec<TableEntry>, part: &Reply) -> Result<(), Memory>
-    ensures { OnOk result (all.new.items ≡ all.old.items ++ entries_of part.now) }
+fn add_entries(alloc: Global, all: &mut TableEntries, part: &Reply) -> Result<(), Memory>
+    ensures { OnOk result (all.new ≡ all.old ++ entries_of part.now) }
 {
     match part {
         Reply::Entries { more: _, entries } => add_copies(alloc, all, entries.items()),
@@ -113,10 +113,10 @@ fn add_entries(alloc: Global, all: &mut Vec<TableEntry>, part: &Reply) -> Result
 /// Adds copies of these entries.
 pub(crate) fn add_copies(
     alloc: Global,
-    all: &mut Vec<TableEntry>,
+    all: &mut TableEntries,
     entries: &[TableEntry],
 ) -> Result<(), Memory>
-    ensures { OnOk result (all.new.items ≡ all.old.items ++ entries.now) }
+    ensures { OnOk result (all.new ≡ all.old ++ entries.now) }
 {
     for entry in entries {
         all.push(entry.copy(alloc)?)?;

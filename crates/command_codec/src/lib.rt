@@ -14,7 +14,6 @@ mod fault;
 mod joining;
 pub mod limits;
 mod lists;
-mod logs;
 mod order;
 pub mod parts;
 pub mod reading;
@@ -29,10 +28,6 @@ pub use command::{Command, write_command};
 pub use command_reading::read_command;
 pub use fault::CodecFault;
 pub use joining::join;
-pub use lists::{Entries, LogPositions, TableEntries};
-pub use logs::Logs;
+pub use lists::{Entries, LogPositions, Logs, TableEntries};
 pub use reply::{LogPosition, Reply, TableEntry, write_reply};
 pub use reply_reading::read_reply;
-
-#[cfg(test)]
-mod tests;

@@ -5,6 +5,7 @@ ghost use Rattle.std.specs.List.{AllByRecursion, flat_map};
 ghost use Rattle.command_codec.specs.Fields.{u16_bytes, u64_bytes};
 ghost use Rattle.command_codec.specs.Replies.{IsReply, ArePositions, AreTableEntries, IsPosition, IsTableEntry, reply_bytes, position_bytes, table_entry_bytes, keys_rise, flag};
 
+use crate::joining::add_copies;
 use crate::limits::{ENTRIES, KEY, LOGS, POSITIONS, STORED};
 use crate::order::comes_after;
 use crate::writing::{put_string16, put_u8, put_u16, put_u64};
@@ -82,7 +83,10 @@ impl Reply {
         ensures { IfOk result (λ reply. reply ≡ self.now) }
     {
         match self {
-            Reply::Positions(positions) => Ok(Reply::Positions(positions.copy(alloc)?)),
+            Reply::Positions(positions) => Ok(Reply::Positions(LogPositions::from_slice(
+                alloc,
+                positions.items(),
+            )?)),
             Reply::Value(value) => Ok(Reply::Value(Octets::from_slice(alloc, value.bytes())?)),
             Reply::Trimmed(trim) => Ok(Reply::Trimmed(*trim)),
             Reply::Absent => Ok(Reply::Absent),
@@ -91,7 +95,7 @@ impl Reply {
             Reply::Done => Ok(Reply::Done),
             Reply::Entries { more, entries } => Ok(Reply::Entries {
                 more: *more,
-                entries: entries.copy(alloc)?,
+                entries: copied(alloc, entries.items())?,
             }),
             Reply::Limit => Ok(Reply::Limit),
             Reply::Differs(value) => Ok(Reply::Differs(Octets::from_slice(alloc, value.bytes())?)),
@@ -140,6 +144,15 @@ fn rise(entries: &[TableEntry]) -> bool
         before = entry.key.bytes();
     }
     true
+}
+
+/// Equal entries.
+fn copied(alloc: Global, entries: &[TableEntry]) -> Result<TableEntries, Memory>
+    ensures { IfOk result (λ copies. copies ≡ entries.now) }
+{
+    let mut copies = TableEntries::new(alloc);
+    add_copies(alloc, &mut copies, entries)?;
+    Ok(copies)
 }
 
 /// The one spelling of a reply.

@@ -22,6 +22,3 @@ pub use reading::{kind_of, read};
 pub use sent::{Frames, Sent};
 pub use sizes::{decided_size, vote_size};
 pub use writing::write;
-
-#[cfg(test)]
-mod tests;

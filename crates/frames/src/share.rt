@@ -81,16 +81,6 @@ fn share_body(alloc: Global, body: &Body) -> Result<Body, Memory>
             mask: *mask,
             value: value.share()?,
         }),
-        _ => share_decision(alloc, body),
-    }
-}
-
-// Of a body of kind 6 or a later one.
-fn share_decision(alloc: Global, body: &Body) -> Result<Body, Memory>
-    requires { 6 ≤ kind_of_body body.now }
-    ensures { IfOk result (λ copy. copy ≡ body.now) }
-{
-    match body {
         Body::Decide {
             ring,
             lo,
@@ -129,16 +119,6 @@ fn share_decision(alloc: Global, body: &Body) -> Result<Body, Memory>
             ring: *ring,
             inst: *inst,
         }),
-        _ => share_ringless(alloc, body),
-    }
-}
-
-// Of a body of kind 13 or a later one.
-fn share_ringless(alloc: Global, body: &Body) -> Result<Body, Memory>
-    requires { 13 ≤ kind_of_body body.now }
-    ensures { IfOk result (λ copy. copy ≡ body.now) }
-{
-    match body {
         Body::AskCheckpoint { epoch, attempt } => Ok(Body::AskCheckpoint {
             epoch: *epoch,
             attempt: *attempt,
@@ -163,16 +143,6 @@ fn share_ringless(alloc: Global, body: &Body) -> Result<Body, Memory>
             tuple: BoxedTuple::new(alloc, *tuple.tuple())?,
             offset: *offset,
         }),
-        _ => share_last(alloc, body),
-    }
-}
-
-// Of a body of one of the last kinds, 16 to 19.
-fn share_last(alloc: Global, body: &Body) -> Result<Body, Memory>
-    requires { 16 ≤ kind_of_body body.now }
-    ensures { IfOk result (λ copy. copy ≡ body.now) }
-{
-    match body {
         Body::Part {
             epoch,
             attempt,
@@ -210,7 +180,7 @@ fn share_last(alloc: Global, body: &Body) -> Result<Body, Memory>
             partition: *partition,
             reply: Octets::from_slice(alloc, reply.bytes())?,
         }),
-        _ => Ok(Body::Hello),
+        Body::Hello => Ok(Body::Hello),
     }
 }
 

@@ -4,7 +4,6 @@ ghost use Rattle.std.specs.Prelude.{◌≡◌, ◌↔◌, ◌≤◌, ◌<◌, �
 ghost use Rattle.mrp_types.specs.Tuples.{IsTuple};
 ghost use Rattle.mrp_types.specs.Values.{is_skip as is_skip_lem};
 ghost use Rattle.frames.specs.Ranges.{nothing_before, may_skip};
-ghost use Rattle.frames.specs.Spelling.{kind_of_body};
 ghost use Rattle.frames.specs.Valid.{IsFrame, MaySend, IsBody, IsRange, IsValueOf, IsBehind, IsBallot, AreVotes, AreRanges};
 
 use crate::bodies::{REPLY, length_of_part};
@@ -91,16 +90,6 @@ fn is_body(body: &Body) -> bool
                 && is_range(*lo, *hi)
                 && is_value_of(*lo, *hi, value)
         }
-        _ => is_later_body(body),
-    }
-}
-
-/// Of a body of kind 6 or a later one.
-fn is_later_body(body: &Body) -> bool
-    requires { 6 ≤ kind_of_body body.now }
-    ensures { IsTrue result ↔ IsBody body.now }
-{
-    match body {
         Body::Decide {
             ring,
             lo,
@@ -114,16 +103,7 @@ fn is_later_body(body: &Body) -> bool
         Body::AskSafe { ring, .. } => is_ring(*ring),
         Body::Safe { ring, inst, .. } => is_ring(*ring) && *inst < END,
         Body::TrimTo { ring, inst } => is_ring(*ring) && *inst < END,
-        _ => is_ringless_body(body),
-    }
-}
-
-/// Of a body of kind 13 or a later one: none of them speaks of a ring.
-fn is_ringless_body(body: &Body) -> bool
-    requires { 13 ≤ kind_of_body body.now }
-    ensures { IsTrue result ↔ IsBody body.now }
-{
-    match body {
+        Body::AskCheckpoint { .. } => true,
         Body::HaveCheckpoint { tuple, .. } => is_tuple(tuple.tuple()),
         Body::AskPart { tuple, .. } => is_tuple(tuple.tuple()),
         Body::Part {
@@ -135,7 +115,7 @@ fn is_ringless_body(body: &Body) -> bool
         } => is_tuple(tuple.tuple()) && is_part(*offset, *total, bytes),
         Body::Gone { asked, newer, .. } => is_tuple(asked.tuple()) && is_tuple(newer.tuple()),
         Body::Reply { reply, .. } => reply.len() <= REPLY,
-        _ => true,
+        Body::Hello => true,
     }
 }
 

@@ -63,7 +63,7 @@ fn put_party(out: &mut Octets, party: Party) -> Result<(), Memory>
 }
 
 /// The fields of a body in order.
-#[tactic(auto, using(crate::proofs::Lengths::votes_spelled))]
+#[tactic(auto, using(crate::proofs::Lengths::votes_spelled, crate::proofs::Lengths::ranges_spelled, command_codec::proofs::PartLaws::value_fits))]
 fn put_body(out: &mut Octets, body: &Body) -> Result<(), Memory>
     requires { IsBody body.now }
     ensures { OnOk result (out.new ≡ out.old ++ body_bytes body.now) }
@@ -99,18 +99,6 @@ fn put_body(out: &mut Octets, body: &Body) -> Result<(), Memory>
             ballot,
             promise,
         } => put_two(out, *ring, *ballot, *promise),
-        _ => put_proposal(out, body),
-    }
-}
-
-/// The fields of a body of kind 5 or a later one.
-#[tactic(auto, using(command_codec::proofs::PartLaws::value_fits))]
-fn put_proposal(out: &mut Octets, body: &Body) -> Result<(), Memory>
-    requires body { IsBody body.now }
-    requires later { 5 ≤ kind_of_body body.now }
-    ensures { OnOk result (out.new ≡ out.old ++ body_bytes body.now) }
-{
-    match body {
         Body::Accept {
             ring,
             ballot,
@@ -135,18 +123,6 @@ fn put_proposal(out: &mut Octets, body: &Body) -> Result<(), Memory>
             put_u8(out, *left)?;
             put_value(out, value)
         }
-        _ => put_learning(out, body),
-    }
-}
-
-/// The fields of a body of kind 7 or a later one.
-#[tactic(auto, using(crate::proofs::Lengths::ranges_spelled))]
-fn put_learning(out: &mut Octets, body: &Body) -> Result<(), Memory>
-    requires body { IsBody body.now }
-    requires later { 7 ≤ kind_of_body body.now }
-    ensures { OnOk result (out.new ≡ out.old ++ body_bytes body.now) }
-{
-    match body {
         Body::Fetch { ring, lo } => put_one(out, *ring, *lo),
         Body::Chosen { ring, ranges } => {
             put_u8(out, ring.0)?;
@@ -156,17 +132,6 @@ fn put_learning(out: &mut Octets, body: &Body) -> Result<(), Memory>
         Body::AskSafe { ring, round } => put_one(out, *ring, *round),
         Body::Safe { ring, round, inst } => put_two(out, *ring, *round, *inst),
         Body::TrimTo { ring, inst } => put_one(out, *ring, *inst),
-        _ => put_ringless(out, body),
-    }
-}
-
-/// The fields of a body of kind 13 or a later one: none of them speaks of a ring.
-fn put_ringless(out: &mut Octets, body: &Body) -> Result<(), Memory>
-    requires body { IsBody body.now }
-    requires later { 13 ≤ kind_of_body body.now }
-    ensures { OnOk result (out.new ≡ out.old ++ body_bytes body.now) }
-{
-    match body {
         Body::AskCheckpoint { epoch, attempt } => put_attempt(out, *epoch, *attempt),
         Body::HaveCheckpoint {
             epoch,
@@ -182,17 +147,6 @@ fn put_ringless(out: &mut Octets, body: &Body) -> Result<(), Memory>
             put_checkpoint(out, *epoch, *attempt, tuple.tuple())?;
             put_u64(out, *offset)
         }
-        _ => put_last(out, body),
-    }
-}
-
-/// The fields of a body of one of the last kinds, 16 to 19; a Hello has none.
-fn put_last(out: &mut Octets, body: &Body) -> Result<(), Memory>
-    requires body { IsBody body.now }
-    requires later { 16 ≤ kind_of_body body.now }
-    ensures { OnOk result (out.new ≡ out.old ++ body_bytes body.now) }
-{
-    match body {
         Body::Part {
             epoch,
             attempt,
@@ -226,7 +180,7 @@ fn put_last(out: &mut Octets, body: &Body) -> Result<(), Memory>
             put_u8(out, partition.0)?;
             put_string16(out, reply.bytes())
         }
-        _ => Ok(()),
+        Body::Hello => Ok(()),
     }
 }
 

@@ -2,6 +2,7 @@
 #![tactic(auto)]
 
 mod id;
+mod items;
 mod members;
 mod memory;
 mod octets;
@@ -15,6 +16,7 @@ mod value;
 mod voted;
 
 pub use id::{Ballot, ClientId, END, Inst, LogId, NodeId, PartitionId, Party, RingId, majority};
+pub use items::Items;
 pub use members::{Members, RingView};
 pub use memory::Memory;
 pub use octets::Octets;

@@ -46,7 +46,7 @@ fn places_by_round_then_ring(rt: HostRuntime) {
 }
 
 #[test]
-fn octets_grow(rt: HostRuntime) -> Result<(), Fail> {
+fn items_grow(rt: HostRuntime) -> Result<(), Fail> {
     let alloc = rt.alloc();
     let mut octets = Octets::new(alloc);
     assert!(rt; octets.is_empty());
@@ -56,7 +56,7 @@ fn octets_grow(rt: HostRuntime) -> Result<(), Fail> {
     assert_eq!(rt; octets.bytes(), [1, 2, 3].as_slice());
     let copy = Octets::from_slice(alloc, octets.bytes())?;
     let moved = Octets::from_vec([1, 2, 3].to_vec(alloc)?);
-    assert_eq!(rt; copy.bytes(), moved.bytes());
+    assert_eq!(rt; copy.bytes(), moved.items());
     Ok(())
 }
 

@@ -1,10 +1,8 @@
 //! Votes and decisions as ranges of instances.
 
-ghost use Rattle.std.specs.Prelude.{◌≡◌, ◌++◌, [], ◌∷◌, IfOk, OnOk, OnErr};
+ghost use Rattle.std.specs.Prelude.{◌≡◌, IfOk};
 
-use crate::{Ballot, Inst, Memory, Value};
-use std::alloc::Global;
-use std::marker::Model;
+use crate::{Ballot, Inst, Items, Memory, Value};
 
 /// One vote for each instance from `lo` on and below `hi`, all of one ballot and value.
 #[derive(Debug, Drop)]
@@ -30,47 +28,8 @@ impl Voted {
     }
 }
 
-/// A list of votes, and contracts see it as one.
-#[derive(Debug, Drop)]
-pub struct Votes {
-    items: Vec<Voted>,
-}
-
-impl Model for Votes {
-    ghost use Rattle.std.specs.Prelude.{List};
-    ghost use Rattle.mrp_types.specs.declared.voted.Voted.{Voted};
-
-    ghost Value = { List Voted };
-
-    ghost view = { λ v. v.items.items };
-}
-
-impl Votes {
-    /// No votes yet.
-    pub fn new(alloc: Global) -> Self
-        ensures { result ≡ [] }
-    {
-        Votes {
-            items: Vec::new(alloc),
-        }
-    }
-
-    /// The votes in order.
-    pub fn items(&self) -> &[Voted]
-        ensures { result.now ≡ self.now }
-    {
-        &self.items
-    }
-
-    /// Adds a vote at the end; without memory nothing is added.
-    pub fn push(&mut self, voted: Voted) -> Result<(), Memory>
-        ensures ok { OnOk result (self.new ≡ self.old ++ voted ∷ []) }
-        ensures err { OnErr result (self.new ≡ self.old) }
-    {
-        self.items.push(voted)?;
-        Ok(())
-    }
-}
+/// Votes in order.
+pub type Votes = Items<Voted>;
 
 /// One decided value for each instance from `lo` on and below `hi`.
 #[derive(Debug, Drop)]
@@ -81,44 +40,5 @@ pub struct Decided {
     pub value: Value,
 }
 
-/// A list of decided ranges, and contracts see it as one.
-#[derive(Debug, Drop)]
-pub struct Ranges {
-    items: Vec<Decided>,
-}
-
-impl Model for Ranges {
-    ghost use Rattle.std.specs.Prelude.{List};
-    ghost use Rattle.mrp_types.specs.declared.voted.Decided.{Decided};
-
-    ghost Value = { List Decided };
-
-    ghost view = { λ r. r.items.items };
-}
-
-impl Ranges {
-    /// No ranges yet.
-    pub fn new(alloc: Global) -> Self
-        ensures { result ≡ [] }
-    {
-        Ranges {
-            items: Vec::new(alloc),
-        }
-    }
-
-    /// The ranges in order.
-    pub fn items(&self) -> &[Decided]
-        ensures { result.now ≡ self.now }
-    {
-        &self.items
-    }
-
-    /// Adds a range at the end; without memory nothing is added.
-    pub fn push(&mut self, decided: Decided) -> Result<(), Memory>
-        ensures ok { OnOk result (self.new ≡ self.old ++ decided ∷ []) }
-        ensures err { OnErr result (self.new ≡ self.old) }
-    {
-        self.items.push(decided)?;
-        Ok(())
-    }
-}
+/// Decided ranges in order.
+pub type Ranges = Items<Decided>;

@@ -4,7 +4,8 @@ use Rattle.std.specs.List.{filter, range_with_len}
 use Rattle.std.proofs.lemmas.List.Elements.{filter-append}
 use Rattle.rand_core.specs.Steps.{first_words}
 use Rattle.schedule.specs.declared.event.ScheduleEvent.{ScheduleEvent}
-use Rattle.schedule.specs.Generating.{Names, named_below, event_by, events_by}
+use Rattle.schedule.specs.declared.names.Names.{Names}
+use Rattle.schedule.specs.Generating.{named_below, event_by, events_by}
 
 -- ---- names
 

@@ -14,6 +14,7 @@ use Rattle.disk_model.specs.declared.area.Image.TheVariants.{Old, New, Fill}
 use Rattle.mrp_config.specs.declared.tables.PartitionTable.{PartitionTable}
 use Rattle.mrp_config.specs.Config.{Config, has_log}
 use Rattle.schedule.specs.declared.event.ScheduleEvent.{ScheduleEvent}
+use Rattle.schedule.specs.declared.names.Names.{Names}
 use Rattle.schedule.specs.declared.event.ScheduleEvent.TheVariants.{Ask, Flow, Lose, Deliver, TickAll, Crash, Restart, Fuse}
 use Rattle.schedule.specs.Fields.{is_client, is_node}
 
@@ -38,11 +39,6 @@ abbrev pub log_named : ℕ → LogId
 log_named n = record { 0 = n }
 
 -- the clients, the nodes and the logs of a deployment, each by id
-pub record Names : Type 0 where
-  pub clients : List ClientId
-  pub nodes : List NodeId
-  pub logs : List LogId
-
 abbrev pub names_of : Config → Names
 names_of config = record {
   clients = named_below client_named (is_client config) 256;

@@ -1,11 +1,8 @@
 //! The events of a schedule.
 
-ghost use Rattle.std.specs.Prelude.{◌≡◌};
-
 use command_codec::Command;
 use disk_model::Image;
-use mrp_types::{ClientId, NodeId, RingId};
-use std::marker::Model;
+use mrp_types::{ClientId, Items, NodeId, RingId};
 
 /// What happens next.
 #[derive(Debug, Drop)]
@@ -42,33 +39,5 @@ pub enum ScheduleEvent {
     Show { node: NodeId },
 }
 
-/// Events in order, and contracts see the list of them.
-#[derive(Drop)]
-pub struct Schedule {
-    items: Vec<ScheduleEvent>,
-}
-
-impl Model for Schedule {
-    ghost use Rattle.std.specs.Prelude.{List};
-    ghost use Rattle.schedule.specs.declared.event.ScheduleEvent.{ScheduleEvent};
-
-    ghost Value = { List ScheduleEvent };
-
-    ghost view = { λ s. s.items.items };
-}
-
-impl Schedule {
-    /// These events.
-    pub fn from_vec(items: Vec<ScheduleEvent>) -> Self
-        ensures { result ≡ items.items }
-    {
-        Schedule { items }
-    }
-
-    /// The events in order.
-    pub fn items(&self) -> &[ScheduleEvent]
-        ensures { result.now ≡ self.now }
-    {
-        &self.items
-    }
-}
+/// Events in order.
+pub type Schedule = Items<ScheduleEvent>;

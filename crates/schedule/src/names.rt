@@ -5,9 +5,8 @@ ghost use Rattle.schedule.specs.Generating.{names_of, named_below, is_held, clie
 ghost use Rattle.schedule.specs.Fields.{is_client, is_node};
 
 use mrp_config::{Deployment, PartitionTable};
-use mrp_types::{ClientId, LogId, Memory, NodeId};
+use mrp_types::{ClientId, Items, LogId, Memory, NodeId};
 use std::alloc::Global;
-use std::marker::Model;
 
 // Ids of clients and nodes are below the first, those of logs below the second.
 const IDS: u16 = 256;
@@ -17,17 +16,9 @@ const LOGS: u8 = 64;
 /// The clients, the nodes and the logs of a deployment, each in order of id.
 #[derive(Drop)]
 pub struct Names {
-    clients: Vec<ClientId>,
-    nodes: Vec<NodeId>,
-    logs: Vec<LogId>,
-}
-
-impl Model for Names {
-    ghost use Rattle.schedule.specs.Generating.{Names as Listed};
-
-    ghost Value = { Listed };
-
-    ghost view = { λ n. record { clients = n.clients.items; nodes = n.nodes.items; logs = n.logs.items } };
+    clients: Items<ClientId>,
+    nodes: Items<NodeId>,
+    logs: Items<LogId>,
 }
 
 impl Names {
@@ -46,28 +37,28 @@ impl Names {
     pub fn client(&self, x: u32) -> Option<ClientId>
         ensures { result ≡ xth_lem self.now.clients x }
     {
-        xth(&self.clients, x)
+        xth(self.clients.items(), x)
     }
 
     /// The x-th node.
     pub fn node(&self, x: u32) -> Option<NodeId>
         ensures { result ≡ xth_lem self.now.nodes x }
     {
-        xth(&self.nodes, x)
+        xth(self.nodes.items(), x)
     }
 
     /// The x-th log.
     pub fn log(&self, x: u32) -> Option<LogId>
         ensures { result ≡ xth_lem self.now.logs x }
     {
-        xth(&self.logs, x)
+        xth(self.logs.items(), x)
     }
 }
 
-fn clients_of(alloc: Global, deployment: &Deployment) -> Result<Vec<ClientId>, Memory>
-    ensures { IfOk result (λ v. v.items ≡ named_below client_named (is_client deployment.now) 256) }
+fn clients_of(alloc: Global, deployment: &Deployment) -> Result<Items<ClientId>, Memory>
+    ensures { IfOk result (λ names. names ≡ named_below client_named (is_client deployment.now) 256) }
 {
-    let mut clients = Vec::new(alloc);
+    let mut clients = Items::new(alloc);
     for id in 0..IDS {
         let client = ClientId(id as u8);
         if has_client(deployment, client) {
@@ -83,10 +74,10 @@ fn has_client(deployment: &Deployment, client: ClientId) -> bool
     deployment.client(client).is_some()
 }
 
-fn nodes_of(alloc: Global, deployment: &Deployment) -> Result<Vec<NodeId>, Memory>
-    ensures { IfOk result (λ v. v.items ≡ named_below node_named (is_node deployment.now) 256) }
+fn nodes_of(alloc: Global, deployment: &Deployment) -> Result<Items<NodeId>, Memory>
+    ensures { IfOk result (λ names. names ≡ named_below node_named (is_node deployment.now) 256) }
 {
-    let mut nodes = Vec::new(alloc);
+    let mut nodes = Items::new(alloc);
     for id in 0..IDS {
         let node = NodeId(id as u8);
         if has_node(deployment, node) {
@@ -102,10 +93,10 @@ fn has_node(deployment: &Deployment, node: NodeId) -> bool
     deployment.node(node).is_some()
 }
 
-fn logs_of(alloc: Global, partitions: &[PartitionTable]) -> Result<Vec<LogId>, Memory>
-    ensures { IfOk result (λ v. v.items ≡ named_below log_named (is_held partitions.now) 64) }
+fn logs_of(alloc: Global, partitions: &[PartitionTable]) -> Result<Items<LogId>, Memory>
+    ensures { IfOk result (λ names. names ≡ named_below log_named (is_held partitions.now) 64) }
 {
-    let mut logs = Vec::new(alloc);
+    let mut logs = Items::new(alloc);
     for id in 0..LOGS {
         let log = LogId(id);
         if has_holder(partitions, log) {

@@ -1,23 +1,20 @@
 //! The bytes that a case gives to its reader.
 
 use crate::texts::Texts;
-use std::alloc::{AllocError, Global};
+use mrp_types::Memory;
+use std::alloc::Global;
 
 /// The bytes of hexadecimal text; none where it is no such text.
-pub fn bytes_of_hex(alloc: Global, text: &str) -> Result<Option<Vec<u8>>, AllocError> {
+pub fn bytes_of_hex(alloc: Global, text: &str) -> Result<Option<Vec<u8>>, Memory> {
     match hex::decode(alloc, text) {
         Ok(bytes) => Ok(Some(bytes)),
-        Err(hex::FromHexError::OutOfMemory) => Err(AllocError),
+        Err(hex::FromHexError::OutOfMemory) => Err(Memory),
         Err(_) => Ok(None),
     }
 }
 
 /// The text of a deployment as its case writes it over; none where there is no such text, or nothing to write over.
-pub fn text_of_config(
-    alloc: Global,
-    texts: &Texts,
-    case: &str,
-) -> Result<Option<String>, AllocError> {
+pub fn text_of_config(alloc: Global, texts: &Texts, case: &str) -> Result<Option<String>, Memory> {
     let Some((name, edit)) = case.split_once(' ') else {
         return match texts.named(case) {
             Some(text) => Ok(Some(String::from_str(alloc, text)?)),
@@ -36,8 +33,10 @@ pub fn text_of_config(
 }
 
 /// The text with a line feed for each `\n`, a tab for each `\t` and a carriage return for each `\r`.
-pub fn with_control(alloc: Global, text: &str) -> Result<String, AllocError> {
-    text.replace(alloc, "\\n", "\n")?
+pub fn with_control(alloc: Global, text: &str) -> Result<String, Memory> {
+    let text = text
+        .replace(alloc, "\\n", "\n")?
         .replace(alloc, "\\t", "\t")?
-        .replace(alloc, "\\r", "\r")
+        .replace(alloc, "\\r", "\r")?;
+    Ok(text)
 }

@@ -1,16 +1,25 @@
 //! What a journal's openings find and leave.
 
+ghost use Rattle.std.specs.Prelude.{◌≡◌, IfOk};
+ghost use Rattle.disk_model.specs.Calls.{area_bytes};
+ghost use Rattle.disk_model.specs.declared.area.Area.TheVariants.{Journal0, Journal1};
+ghost use Rattle.text_lines.specs.Text.{hex_text};
+ghost use Rattle.verdicts.specs.Texts.{state_text as state_text_lem, areas_text as areas_text_lem};
+
 use crate::bytes_of::bytes_of_hex;
+use crate::faults::{open_fault, said};
 use disk_model::{Area, SimDisk};
-use mrp_types::{NodeId, RingId};
-use std::alloc::{AllocError, Global};
-use vote_journal::{OpenFault, VoteJournal};
+use mrp_types::{Memory, NodeId, Octets, RingId};
+use std::alloc::Global;
+use text_lines::{put_number, put_word};
+use vote_journal::VoteJournal;
+use vote_state::Durable;
 
 // More than any case needs.
 const WIDE: u64 = 1_048_576;
 
 /// The bytes of both areas of a journal; none where the case has no two such texts. `-` is an empty area.
-pub fn areas_of(alloc: Global, case: &str) -> Result<Option<(Vec<u8>, Vec<u8>)>, AllocError> {
+pub fn areas_of(alloc: Global, case: &str) -> Result<Option<(Vec<u8>, Vec<u8>)>, Memory> {
     let Some((first, second)) = case.split_once(' ') else {
         return Ok(None);
     };
@@ -20,7 +29,7 @@ pub fn areas_of(alloc: Global, case: &str) -> Result<Option<(Vec<u8>, Vec<u8>)>,
     Ok(Some((first, second)))
 }
 
-fn area_of(alloc: Global, text: &str) -> Result<Option<Vec<u8>>, AllocError> {
+fn area_of(alloc: Global, text: &str) -> Result<Option<Vec<u8>>, Memory> {
     if text == "-" {
         return Ok(Some(Vec::new(alloc)));
     }
@@ -32,66 +41,61 @@ fn disk_of(alloc: Global, areas: (Vec<u8>, Vec<u8>)) -> SimDisk {
 }
 
 /// The epoch that node 0 has once it has opened the journal, and what it has promised in ring 1; or why it doesn't open.
-pub fn found(alloc: Global, areas: (Vec<u8>, Vec<u8>)) -> Result<String, AllocError> {
+pub fn found(alloc: Global, areas: (Vec<u8>, Vec<u8>)) -> Result<Octets, Memory> {
     let mut disk = disk_of(alloc, areas);
     match VoteJournal::open(alloc, &mut disk, NodeId(0), WIDE) {
-        Ok(journal) => {
-            let epoch = journal.durable().epoch();
-            let promise = journal.durable().promise(RingId(1));
-            format!(in alloc; "epoch {epoch} promise {promise}")
-        }
-        Err(fault) => told(alloc, fault),
+        Ok(journal) => state_text(alloc, journal.durable()),
+        Err(fault) => open_fault(alloc, fault),
     }
 }
 
+fn state_text(alloc: Global, durable: &Durable) -> Result<Octets, Memory>
+    ensures { IfOk result (λ text. text ≡ state_text_lem durable.now) }
+{
+    let mut text = said(alloc, "epoch")?;
+    put_number(&mut text, u64::from(durable.epoch()))?;
+    put_word(&mut text, b"promise")?;
+    put_number(&mut text, durable.promise(RingId(1)))?;
+    Ok(text)
+}
+
 /// Both areas once node 0 has opened the journal; or why it doesn't open.
-pub fn opened(alloc: Global, areas: (Vec<u8>, Vec<u8>)) -> Result<String, AllocError> {
+pub fn opened(alloc: Global, areas: (Vec<u8>, Vec<u8>)) -> Result<Octets, Memory> {
     let mut disk = disk_of(alloc, areas);
     match VoteJournal::open(alloc, &mut disk, NodeId(0), WIDE) {
-        Ok(_) => shown(alloc, &disk),
-        Err(fault) => told(alloc, fault),
+        Ok(_) => areas_text(alloc, &disk),
+        Err(fault) => open_fault(alloc, fault),
     }
 }
 
 /// Both areas once node 0 has opened the journal and compacted it; or why it doesn't.
-pub fn compacted(alloc: Global, areas: (Vec<u8>, Vec<u8>)) -> Result<String, AllocError> {
+pub fn compacted(alloc: Global, areas: (Vec<u8>, Vec<u8>)) -> Result<Octets, Memory> {
     let mut disk = disk_of(alloc, areas);
     let journal = match VoteJournal::open(alloc, &mut disk, NodeId(0), WIDE) {
         Ok(journal) => journal,
-        Err(fault) => return told(alloc, fault),
+        Err(fault) => return open_fault(alloc, fault),
     };
     if journal.generation() == u64::MAX || journal.compact(&mut disk).is_err() {
-        return String::from_str(alloc, "not compacted");
+        return said(alloc, "not compacted");
     }
-    shown(alloc, &disk)
+    areas_text(alloc, &disk)
 }
 
-// Both areas in hexadecimal, `-` for an empty one.
-fn shown(alloc: Global, disk: &SimDisk) -> Result<String, AllocError> {
-    let first = shown_area(alloc, disk.bytes(Area::Journal0))?;
-    let second = shown_area(alloc, disk.bytes(Area::Journal1))?;
-    format!(in alloc; "{first} {second}")
+// Both areas of the journal in hexadecimal, `-` for an empty one.
+fn areas_text(alloc: Global, disk: &SimDisk) -> Result<Octets, Memory>
+    ensures { IfOk result (λ text. text ≡ areas_text_lem (area_bytes Journal0 disk.now.told) (area_bytes Journal1 disk.now.told)) }
+{
+    let mut text = area_text(alloc, disk.bytes(Area::Journal0))?;
+    let second = area_text(alloc, disk.bytes(Area::Journal1))?;
+    put_word(&mut text, second.bytes())?;
+    Ok(text)
 }
 
-fn shown_area(alloc: Global, bytes: &[u8]) -> Result<String, AllocError> {
+fn area_text(alloc: Global, bytes: &[u8]) -> Result<Octets, Memory>
+    ensures { IfOk result (λ text. text ≡ hex_text bytes.now) }
+{
     if bytes.is_empty() {
-        return String::from_str(alloc, "-");
+        return said(alloc, "-");
     }
-    hex::encode(alloc, bytes)
-}
-
-fn told(alloc: Global, fault: OpenFault) -> Result<String, AllocError> {
-    match fault {
-        OpenFault::Damaged(area, at) => {
-            let area = area.number();
-            format!(in alloc; "damaged {area} {at}")
-        }
-        OpenFault::WrongNode(node) => {
-            let node = node.0;
-            format!(in alloc; "wrongnode {node}")
-        }
-        OpenFault::BadRecord(at) => format!(in alloc; "badrecord {at}"),
-        OpenFault::EpochLimit => String::from_str(alloc, "epochlimit"),
-        _ => String::from_str(alloc, "failed"),
-    }
+    said(alloc, hex::encode(alloc, bytes)?.as_str())
 }

@@ -1,25 +1,30 @@
 //! The program: cases on standard input, and each of them with its verdict on standard output.
 //!
-//! A case is a line. `frame HEX`, `command HEX`, `batch HEX` and `reply HEX` are bytes for the reader of that name. `text NAME`
+//! A case is a line. `frame HEX`, `command HEX`, `batch HEX` and `reply HEX` are bytes for the reader of that name; what is read has
+//! a spelling, and is written again, which gives the same bytes (a batch of more bytes than a value may have isn't written). `text NAME`
 //! begins a deployment: the lines behind it, up to `end`, are its text. `config NAME` is that text, and `config NAME OLD => NEW` the
 //! text with NEW in place of the first OLD. `journal AREA AREA` are the bytes of both areas of a journal, which node 0 opens: its
 //! verdict is the epoch and the promise of ring 1; of `opened AREA AREA` it is the two areas then, and of `compacted AREA AREA` the two
 //! areas after a compaction behind that.
 //!
 //! `line TEXT` is a line of a transcript, `events NAME TEXT` a schedule over the deployment of that name, and `asked NAME TEXT` the text
-//! of a client. They are read, and what is read is written again: `ok` says that this gives the same text. The number behind a fault
-//! is that of its line. In these texts, and in OLD and NEW, `\n` stands for a line feed, `\t` for a tab and `\r` for a carriage return.
+//! of a client. What is read is written again too. The number behind a fault is that of its line. In these texts, and in OLD and NEW,
+//! `\n` stands for a line feed, `\t` for a tab and `\r` for a carriage return.
 //!
 //! A case is printed again, and behind ` : ` what its reader answers: `ok`, or the kind of the first fault with what it names, or
 //! `no case` where the line is none. Empty lines, lines that begin with `#`, and texts are no cases, and nothing is printed of them.
 #![tactic(auto)]
 
 mod bytes_of;
+mod faults;
 mod journals;
-mod lines;
+mod readers;
+#[cfg(test)]
+mod tests;
 mod texts;
 mod verdict;
 
+use std::alloc::AllocError;
 use std::io::{BufRead, BufReader};
 use texts::Texts;
 use verdict::verdict;
@@ -33,7 +38,8 @@ fn main(rt: HostRuntime) -> anyhow::Result<()> {
         if texts.takes(line)? || line.is_empty() || line.starts_with('#') {
             continue;
         }
-        let answer = verdict(alloc, &texts, line)?;
+        let answer = verdict(alloc, &texts, line).map_err(|_| AllocError)?;
+        let answer = str::from_utf8(answer.bytes())?;
         println!(rt; "{line} : {answer}")?;
     }
     Ok(())

@@ -1,58 +1,38 @@
 //! What a reader answers to a case, in words.
 
-use crate::bytes_of::{bytes_of_hex, text_of_config};
+use crate::bytes_of::{bytes_of_hex, text_of_config, with_control};
+use crate::faults::said;
 use crate::journals::{areas_of, compacted, found, opened};
-use crate::lines::{events_verdict, line_verdict};
+use crate::readers::{asked_verdict, bytes_verdict, config_verdict, events_verdict, line_verdict};
 use crate::texts::Texts;
-use command_codec::{CodecFault, read_batch, read_command, read_reply};
-use frames::FrameFault;
-use mrp_config::{ConfigFault, Deployment};
-use std::alloc::{AllocError, Global};
+use mrp_config::Deployment;
+use mrp_types::{Memory, Octets};
+use std::alloc::Global;
 
 /// The verdict on a case: `ok`, a fault, or `no case`.
-pub fn verdict(alloc: Global, texts: &Texts, case: &str) -> Result<String, AllocError> {
+pub fn verdict(alloc: Global, texts: &Texts, case: &str) -> Result<Octets, Memory> {
     let Some((word, rest)) = case.split_once(' ') else {
-        return String::from_str(alloc, "no case");
+        return said(alloc, "no case");
     };
-    if word == "config" {
-        return match text_of_config(alloc, texts, rest)? {
-            Some(text) => config_verdict(alloc, text.as_bytes()),
-            None => String::from_str(alloc, "no case"),
-        };
-    }
-    if word == "line" {
-        return line_verdict(alloc, rest);
-    }
-    if word == "events" || word == "asked" {
-        return events_verdict(alloc, texts, word, rest);
-    }
-    if word == "journal" || word == "opened" || word == "compacted" {
-        return match areas_of(alloc, rest)? {
-            Some(areas) => journal_verdict(alloc, word, areas),
-            None => String::from_str(alloc, "no case"),
-        };
-    }
-    match bytes_of_hex(alloc, rest)? {
-        Some(bytes) => bytes_verdict(alloc, word, bytes.as_slice()),
-        None => String::from_str(alloc, "no case"),
-    }
-}
-
-fn bytes_verdict(alloc: Global, word: &str, bytes: &[u8]) -> Result<String, AllocError> {
     match word {
-        "frame" => frame_verdict(alloc, frames::read(alloc, bytes).err()),
-        "command" => codec_verdict(alloc, read_command(alloc, bytes).err()),
-        "batch" => codec_verdict(alloc, read_batch(alloc, bytes).err()),
-        "reply" => codec_verdict(alloc, read_reply(alloc, bytes).err()),
-        _ => String::from_str(alloc, "no case"),
+        "config" => match text_of_config(alloc, texts, rest)? {
+            Some(text) => config_verdict(alloc, text.as_bytes()),
+            None => said(alloc, "no case"),
+        },
+        "line" => line_verdict(alloc, with_control(alloc, rest)?.as_bytes()),
+        "events" | "asked" => over_deployment(alloc, texts, word, rest),
+        "journal" | "opened" | "compacted" => match areas_of(alloc, rest)? {
+            Some(areas) => journal_verdict(alloc, word, areas),
+            None => said(alloc, "no case"),
+        },
+        _ => match bytes_of_hex(alloc, rest)? {
+            Some(bytes) => bytes_verdict(alloc, word, bytes.as_slice()),
+            None => said(alloc, "no case"),
+        },
     }
 }
 
-fn journal_verdict(
-    alloc: Global,
-    word: &str,
-    areas: (Vec<u8>, Vec<u8>),
-) -> Result<String, AllocError> {
+fn journal_verdict(alloc: Global, word: &str, areas: (Vec<u8>, Vec<u8>)) -> Result<Octets, Memory> {
     match word {
         "opened" => opened(alloc, areas),
         "compacted" => compacted(alloc, areas),
@@ -60,50 +40,20 @@ fn journal_verdict(
     }
 }
 
-fn frame_verdict(alloc: Global, fault: Option<FrameFault>) -> Result<String, AllocError> {
-    let Some(fault) = fault else {
-        return String::from_str(alloc, "ok");
+// Of events, or of a client's command, over the deployment that the case names first.
+fn over_deployment(alloc: Global, texts: &Texts, word: &str, case: &str) -> Result<Octets, Memory> {
+    let Some((name, text)) = case.split_once(' ') else {
+        return said(alloc, "no case");
     };
-    match fault {
-        FrameFault::TooLong => String::from_str(alloc, "toolong"),
-        FrameFault::Short(at) => format!(in alloc; "short {at}"),
-        FrameFault::BadMagic => String::from_str(alloc, "badmagic"),
-        FrameFault::BadVersion(version) => format!(in alloc; "badversion {version}"),
-        FrameFault::BadKind(kind) => format!(in alloc; "badkind {kind}"),
-        FrameFault::BadField(at) => format!(in alloc; "badfield {at}"),
-        FrameFault::Left(at) => format!(in alloc; "left {at}"),
-        FrameFault::Memory => String::from_str(alloc, "memory"),
-    }
-}
-
-fn codec_verdict(alloc: Global, fault: Option<CodecFault>) -> Result<String, AllocError> {
-    let Some(fault) = fault else {
-        return String::from_str(alloc, "ok");
+    let Some(config) = texts.named(name) else {
+        return said(alloc, "no case");
     };
-    match fault {
-        CodecFault::Short(at) => format!(in alloc; "short {at}"),
-        CodecFault::BadKind(at) => format!(in alloc; "badkind {at}"),
-        CodecFault::BadField(at) => format!(in alloc; "badfield {at}"),
-        CodecFault::TooLong(at) => format!(in alloc; "toolong {at}"),
-        CodecFault::Left(at) => format!(in alloc; "left {at}"),
-        CodecFault::Memory => String::from_str(alloc, "memory"),
-    }
-}
-
-// The number of the fault, and where there are any its name and its id, as the program prints a refused deployment.
-fn config_verdict(alloc: Global, text: &[u8]) -> Result<String, AllocError> {
-    let Err(fault) = Deployment::from_bytes(alloc, text) else {
-        return String::from_str(alloc, "ok");
+    let Ok(deployment) = Deployment::from_bytes(alloc, config.as_bytes()) else {
+        return said(alloc, "no case");
     };
-    let number = fault.number();
-    let mut out = format!(in alloc; "{number}")?;
-    if let Some(name) = fault.name() {
-        out.push(' ')?;
-        out.push_str(str::from_utf8(name.bytes()).unwrap_or("?"))?;
+    let text = with_control(alloc, text)?;
+    if word == "asked" {
+        return asked_verdict(alloc, &deployment, text.as_bytes());
     }
-    if let Some(id) = fault.id() {
-        let id = format!(in alloc; " {id}")?;
-        out.push_str(id.as_str())?;
-    }
-    Ok(out)
+    events_verdict(alloc, &deployment, text.as_bytes())
 }

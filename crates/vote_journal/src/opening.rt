@@ -19,7 +19,7 @@ use disk_model::Disk;
 use gate_log::GateLog;
 use mrp_types::{Memory, NodeId, Octets};
 use std::alloc::Global;
-use vote_state::{Changes, Durable};
+use vote_state::{Change, Changes, Durable};
 
 impl VoteJournal {
     /// Opens a node's journal, or begins one, and records that its epoch rose by one. `limit` is the greatest length of
@@ -74,7 +74,7 @@ fn raise_epoch(
         return Err(OpenFault::EpochLimit);
     }
     let mut changes = Changes::new(alloc);
-    changes.epoch(state.epoch() + 1)?;
+    changes.push(Change::Epoch(state.epoch() + 1))?;
     let bytes = write_epoch(alloc, id, records, &changes)?;
     let mut next = state;
     next.take(&changes)?;

@@ -11,7 +11,7 @@ mod journals;
 fn the_first_record_of_a_journal(rt: HostRuntime) -> Result<(), Fail> {
     let alloc = rt.alloc();
     let mut changes = Changes::new(alloc);
-    changes.epoch(1)?;
+    changes.push(Change::Epoch(1))?;
     let bytes = write_first(alloc, NodeId(0), &changes)?;
     assert_eq!(rt;
         bytes.bytes(),
@@ -47,8 +47,8 @@ fn a_record_has_its_changes_in_order(rt: HostRuntime) -> Result<(), Fail> {
     let alloc = rt.alloc();
     let ring = RingId(15);
     let mut changes = Changes::new(alloc);
-    changes.promise(ring, 3)?;
-    changes.vote(
+    changes.push(Change::Promise(ring, 3))?;
+    changes.push(Change::Vote(
         ring,
         Voted {
             lo: 0,
@@ -56,8 +56,8 @@ fn a_record_has_its_changes_in_order(rt: HostRuntime) -> Result<(), Fail> {
             ballot: 3,
             value: Value::Skip,
         },
-    )?;
-    changes.trim(ring, 7)?;
+    ))?;
+    changes.push(Change::Trim(ring, 7))?;
     let bytes = write_changes(alloc, &changes)?;
     // Three changes: the promise, the vote and the trim.
     let want = [
@@ -165,9 +165,9 @@ fn faults_of_first_records(rt: HostRuntime) {
 #[test]
 fn epochs_in_order(rt: HostRuntime) -> Result<(), Fail> {
     let mut changes = Changes::new(rt.alloc());
-    changes.epoch(2)?;
-    changes.promise(RingId(0), 1)?;
-    changes.epoch(3)?;
+    changes.push(Change::Epoch(2))?;
+    changes.push(Change::Promise(RingId(0), 1))?;
+    changes.push(Change::Epoch(3))?;
     for (before, want) in [(1, true), (2, false), (3, false)] {
         assert_eq!(rt;
             do_epochs_rise(before, changes.items()),
@@ -175,7 +175,7 @@ fn epochs_in_order(rt: HostRuntime) -> Result<(), Fail> {
             "after {before}"
         );
     }
-    changes.epoch(3)?;
+    changes.push(Change::Epoch(3))?;
     assert!(rt; !do_epochs_rise(1, changes.items()));
     Ok(())
 }

@@ -1,4 +1,3 @@
-pub mod BatchRow
 pub mod HeldLemmas
 pub mod MadeAgain
 pub mod MaximalLemmas

@@ -167,12 +167,10 @@ formed_taken (c ∷ cs) s formed valid = formed_taken cs (changed c s) (formed_c
 
 -- ---- all changes of a list made
 
-pub promise_made : (ring : RingId) (cs items : List Change) (n ballot start : ℕ) → items ≡ cs → length items ≤ n → promise_after ring (drop n cs) ballot ≡ promise_after ring cs start → ballot ≡ promise_after ring cs start
-promise_made ring cs items n ballot start is all kept =
-    let none : drop n cs ≡ [] = drop_all n cs (subst (λ (x : List Change). length x ≤ n) is all) in
-    ap (λ (x : List Change). promise_after ring x ballot) (sym none) ∙ kept
+pub promise_made : (ring : RingId) (cs : List Change) (n ballot start : ℕ) → length cs ≤ n → promise_after ring (drop n cs) ballot ≡ promise_after ring cs start → ballot ≡ promise_after ring cs start
+promise_made ring cs n ballot start all kept =
+    ap (λ (x : List Change). promise_after ring x ballot) (sym (drop_all n cs all)) ∙ kept
 
-pub trim_made : (ring : RingId) (cs items : List Change) (n inst start : ℕ) → items ≡ cs → length items ≤ n → trim_after ring (drop n cs) inst ≡ trim_after ring cs start → inst ≡ trim_after ring cs start
-trim_made ring cs items n inst start is all kept =
-    let none : drop n cs ≡ [] = drop_all n cs (subst (λ (x : List Change). length x ≤ n) is all) in
-    ap (λ (x : List Change). trim_after ring x inst) (sym none) ∙ kept
+pub trim_made : (ring : RingId) (cs : List Change) (n inst start : ℕ) → length cs ≤ n → trim_after ring (drop n cs) inst ≡ trim_after ring cs start → inst ≡ trim_after ring cs start
+trim_made ring cs n inst start all kept =
+    ap (λ (x : List Change). trim_after ring x inst) (sym (drop_all n cs all)) ∙ kept

@@ -3,7 +3,7 @@ ghost use Rattle.std.specs.Prelude.{◌≡◌, ◌↔◌, IfOk, OnOk, IsTrue, �
 ghost use Rattle.std.specs.List.{AllByRecursion};
 ghost use Rattle.range_map.specs.Entries.{entries_from, value_at};
 ghost use Rattle.vote_state.specs.Ranges.{AreMaximalRanges, cast_of};
-ghost use Rattle.vote_state.specs.State.{State, IsState, no_votes, nothing_kept, ring_at, promise_at, trim_at, votes_at, votes_from, has_vote, changed, taken, rings_changes, state_changes};
+ghost use Rattle.vote_state.specs.State.{State, IsState, no_votes, nothing_kept, ring_at, promise_at, trim_at, votes_at, votes_from, promise_after, trim_after, has_vote, changed, taken, rings_changes, state_changes};
 ghost use Rattle.vote_state.specs.Valid.{IsChange, IsVoted};
 
 use crate::ring::{RingState, add_ring, holds, ranges_from};
@@ -85,6 +85,30 @@ impl Durable {
         state.trim
     }
 
+    /// The promise of a ring as these changes would leave it.
+    pub fn promise_after(&self, changes: &[Change], ring: RingId) -> Ballot
+        ensures promise { result ≡ promise_after ring changes.now (promise_at self.now ring) }
+        ensures taken { AllByRecursion IsChange changes.now → result ≡ promise_at (taken changes.now self.now) ring }
+    {
+        let mut promise = self.promise(ring);
+        for change in changes {
+            promise = change.promise(ring, promise);
+        }
+        promise
+    }
+
+    /// The trim of a ring as these changes would leave it.
+    pub fn trim_after(&self, changes: &[Change], ring: RingId) -> Inst
+        ensures trim { result ≡ trim_after ring changes.now (trim_at self.now ring) }
+        ensures taken { AllByRecursion IsChange changes.now → result ≡ trim_at (taken changes.now self.now) ring }
+    {
+        let mut trim = self.trim(ring);
+        for change in changes {
+            trim = change.trim(ring, trim);
+        }
+        trim
+    }
+
     /// The held votes of a ring from `from` on, as maximal ranges in order: neighbours of one
     /// ballot and Skip are one range, a batch has a range of its own.
     pub fn votes(&self, ring: RingId, from: Inst) -> Result<Votes, Memory>
@@ -144,7 +168,7 @@ impl Durable {
         ensures again { IfOk result (λ changes. taken changes nothing_kept ≡ self.now) }
     {
         let mut changes = Changes::new(self.alloc);
-        changes.epoch(self.epoch)?;
+        changes.push(Change::Epoch(self.epoch()))?;
         self.add_rings(&mut changes)?;
         Ok(changes)
     }

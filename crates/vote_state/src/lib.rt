@@ -14,6 +14,3 @@ mod voted;
 pub use change::{Change, Changes, changes_add_up, changes_leave};
 pub use durable::Durable;
 pub use voted::ranges_stand_for_votes;
-
-#[cfg(test)]
-mod tests;

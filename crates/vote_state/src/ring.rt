@@ -6,8 +6,8 @@ ghost use Rattle.vote_state.specs.Ranges.{cast_of, ranges_of, are_held};
 ghost use Rattle.vote_state.specs.Valid.{IsVoted, IsInst};
 ghost use Rattle.vote_state.specs.State.{IsKept, no_votes, with_vote, with_trim, promise_changes, trim_changes, ring_changes};
 
-use crate::Changes;
 use crate::cast::Cast;
+use crate::{Change, Changes};
 use mrp_types::{Ballot, Inst, Memory, RingId, Value, Voted, Votes};
 use range_map::RangeMap;
 use std::alloc::Global;
@@ -142,7 +142,7 @@ fn add_promise(changes: &mut Changes, ring: RingId, ballot: Ballot) -> Result<()
     if ballot == 0 {
         return Ok(());
     }
-    changes.promise(ring, ballot)
+    changes.push(Change::Promise(ring, ballot))
 }
 
 fn add_trim(changes: &mut Changes, ring: RingId, inst: Inst) -> Result<(), Memory>
@@ -151,14 +151,14 @@ fn add_trim(changes: &mut Changes, ring: RingId, inst: Inst) -> Result<(), Memor
     if inst == 0 {
         return Ok(());
     }
-    changes.trim(ring, inst)
+    changes.push(Change::Trim(ring, inst))
 }
 
 fn add_votes(changes: &mut Changes, ring: RingId, votes: &[Voted]) -> Result<(), Memory>
     ensures { OnOk result (changes.new ≡ changes.old ++ map (Vote ring) votes.now) }
 {
     for vote in votes {
-        changes.vote(ring, vote.share()?)?;
+        changes.push(Change::Vote(ring, vote.share()?))?;
     }
     Ok(())
 }

@@ -9,7 +9,7 @@ use disk_model::{Area, Disk, Image, SimDisk};
 use mrp_types::{Memory, NodeId, RingId, Value, Voted};
 use std::alloc::Global;
 use std::test::*;
-use vote_state::{Changes, Durable};
+use vote_state::{Change, Changes, Durable};
 
 // A limit that no row here meets.
 const WIDE: u64 = 1_048_576;
@@ -68,7 +68,7 @@ fn a_vote(alloc: Global) -> Result<Changes, Memory>
     ensures epochs { IfOk result (λ changes. (before : ℕ) → IsTrue (epochs_rise before changes)) }
 {
     let mut changes = Changes::new(alloc);
-    changes.vote(
+    changes.push(Change::Vote(
         RING,
         Voted {
             lo: 5,
@@ -76,7 +76,7 @@ fn a_vote(alloc: Global) -> Result<Changes, Memory>
             ballot: 3,
             value: Value::Skip,
         },
-    )?;
+    ))?;
     Ok(changes)
 }
 
@@ -86,7 +86,7 @@ fn a_promise(alloc: Global) -> Result<Changes, Memory>
     ensures epochs { IfOk result (λ changes. (before : ℕ) → IsTrue (epochs_rise before changes)) }
 {
     let mut changes = Changes::new(alloc);
-    changes.promise(RING, 4)?;
+    changes.push(Change::Promise(RING, 4))?;
     Ok(changes)
 }
 
@@ -270,7 +270,7 @@ fn two_votes(alloc: Global) -> Result<Changes, Memory>
     ensures epochs { IfOk result (λ changes. (before : ℕ) → IsTrue (epochs_rise before changes)) }
 {
     let mut changes = Changes::new(alloc);
-    changes.vote(
+    changes.push(Change::Vote(
         RING,
         Voted {
             lo: 0,
@@ -278,8 +278,8 @@ fn two_votes(alloc: Global) -> Result<Changes, Memory>
             ballot: 3,
             value: Value::Skip,
         },
-    )?;
-    changes.vote(
+    ))?;
+    changes.push(Change::Vote(
         RING,
         Voted {
             lo: 4,
@@ -287,7 +287,7 @@ fn two_votes(alloc: Global) -> Result<Changes, Memory>
             ballot: 4,
             value: Value::Skip,
         },
-    )?;
+    ))?;
     Ok(changes)
 }
 

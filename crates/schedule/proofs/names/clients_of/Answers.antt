@@ -6,7 +6,7 @@ use Rattle.schedule.proofs.names.clients_of.Goals as goal
 use Rattle.schedule.proofs.names.clients_of.Goals.{then-has_client+in_ok-push, else-has_client}
 
 pub loop-id-init : goal.loop-id-init
-loop-id-init c = c.new-clients.ensures.items ∙ sym (named_none client_named (is_client c.args.deployment.now))
+loop-id-init c = c.new-clients.ensures ∙ sym (named_none client_named (is_client c.args.deployment.now))
 
 pub loop-id-preserved : goal.loop-id-preserved
 loop-id-preserved c =
@@ -14,7 +14,7 @@ loop-id-preserved c =
     elim c.if-has_client.branch [
       | then-has_client+in_ok-push w ↦
           let one = named_one client_named (is_client c.args.deployment.now) id (sym c.has_client.ensures ∙ w.if-has_client.true) in
-          cc (one, c.loop-id.invariant, w.in_ok-push.ensures.items, w.clients-is)
+          cc (one, c.loop-id.invariant, w.in_ok-push.ensures.ok, w.clients-is)
       | else-has_client w ↦
           let other = named_other client_named (is_client c.args.deployment.now) id (sym c.has_client.ensures ∙ w.if-has_client.false) in
           cc (other, c.loop-id.invariant, w.clients-is)

@@ -5,7 +5,7 @@ use Rattle.schedule.proofs.names.logs_of.Goals as goal
 use Rattle.schedule.proofs.names.logs_of.Goals.{then-has_holder+in_ok-push, else-has_holder}
 
 pub loop-id-init : goal.loop-id-init
-loop-id-init c = c.new-logs.ensures.items ∙ sym (named_none log_named (is_held c.args.partitions.now))
+loop-id-init c = c.new-logs.ensures ∙ sym (named_none log_named (is_held c.args.partitions.now))
 
 pub loop-id-preserved : goal.loop-id-preserved
 loop-id-preserved c =
@@ -13,7 +13,7 @@ loop-id-preserved c =
     elim c.if-has_holder.branch [
       | then-has_holder+in_ok-push w ↦
           let one = named_one log_named (is_held c.args.partitions.now) id (sym c.has_holder.ensures ∙ w.if-has_holder.true) in
-          cc (one, c.loop-id.invariant, w.in_ok-push.ensures.items, w.logs-is)
+          cc (one, c.loop-id.invariant, w.in_ok-push.ensures.ok, w.logs-is)
       | else-has_holder w ↦
           let other = named_other log_named (is_held c.args.partitions.now) id (sym c.has_holder.ensures ∙ w.if-has_holder.false) in
           cc (other, c.loop-id.invariant, w.logs-is)

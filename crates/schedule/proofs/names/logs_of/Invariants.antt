@@ -4,4 +4,4 @@ use Rattle.schedule.proofs.names.logs_of.Given as goal
 
 -- those below this id
 abbrev pub invariant-loop-id : goal.invariant-loop-id
-invariant-loop-id l = l.logs.items ≡ named_below log_named (is_held l.partitions) l.id
+invariant-loop-id l = l.logs ≡ named_below log_named (is_held l.partitions) l.id

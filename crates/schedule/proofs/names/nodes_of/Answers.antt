@@ -6,7 +6,7 @@ use Rattle.schedule.proofs.names.nodes_of.Goals as goal
 use Rattle.schedule.proofs.names.nodes_of.Goals.{then-has_node+in_ok-push, else-has_node}
 
 pub loop-id-init : goal.loop-id-init
-loop-id-init c = c.new-nodes.ensures.items ∙ sym (named_none node_named (is_node c.args.deployment.now))
+loop-id-init c = c.new-nodes.ensures ∙ sym (named_none node_named (is_node c.args.deployment.now))
 
 pub loop-id-preserved : goal.loop-id-preserved
 loop-id-preserved c =
@@ -14,7 +14,7 @@ loop-id-preserved c =
     elim c.if-has_node.branch [
       | then-has_node+in_ok-push w ↦
           let one = named_one node_named (is_node c.args.deployment.now) id (sym c.has_node.ensures ∙ w.if-has_node.true) in
-          cc (one, c.loop-id.invariant, w.in_ok-push.ensures.items, w.nodes-is)
+          cc (one, c.loop-id.invariant, w.in_ok-push.ensures.ok, w.nodes-is)
       | else-has_node w ↦
           let other = named_other node_named (is_node c.args.deployment.now) id (sym c.has_node.ensures ∙ w.if-has_node.false) in
           cc (other, c.loop-id.invariant, w.nodes-is)

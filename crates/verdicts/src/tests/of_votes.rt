@@ -1,12 +1,13 @@
-//! Worked rows.
+//! Votes, promises and trims as an acceptor keeps them.
+
 ghost use Rattle.std.specs.Prelude.{◌≡◌, ◌+◌, ◌<◌, [], ◌∷◌, IfOk};
 ghost use Rattle.mrp_types.specs.declared.value.Value.TheVariants.{Skip};
 ghost use Rattle.vote_state.specs.Valid.{IsVoted};
 
-use super::*;
 use mrp_types::{Memory, Payload, RingId, Value, Voted};
 use std::alloc::Global;
 use std::test::*;
+use vote_state::{Change, Changes, Durable};
 
 const RING: RingId = RingId(0);
 
@@ -58,10 +59,10 @@ fn neighbours_of_one_ballot_and_skip_are_one_range(rt: HostRuntime) -> Result<()
     let alloc = rt.alloc();
     let mut durable = Durable::new(alloc);
     let mut changes = Changes::new(alloc);
-    changes.vote(RING, skip(0, 5, 3))?;
-    changes.vote(RING, skip(5, 9, 3))?;
-    changes.vote(RING, batch(alloc, 9, 3)?)?;
-    changes.vote(RING, batch(alloc, 10, 3)?)?;
+    changes.push(Change::Vote(RING, skip(0, 5, 3)))?;
+    changes.push(Change::Vote(RING, skip(5, 9, 3)))?;
+    changes.push(Change::Vote(RING, batch(alloc, 9, 3)?))?;
+    changes.push(Change::Vote(RING, batch(alloc, 10, 3)?))?;
     durable.take(&changes)?;
     let all = [(0, 9, 3), (9, 10, 3), (10, 11, 3)];
     assert_eq!(rt; shape(&durable, RING, 0, alloc)?.as_slice(), all.as_slice());
@@ -72,8 +73,8 @@ fn neighbours_of_one_ballot_and_skip_are_one_range(rt: HostRuntime) -> Result<()
     );
     assert!(rt; shape(&durable, OTHER, 0, alloc)?.is_empty());
     let mut trim = Changes::new(alloc);
-    trim.trim(RING, 4)?;
-    assert_eq!(rt; trim.trim_of(&durable, RING), 4);
+    trim.push(Change::Trim(RING, 4))?;
+    assert_eq!(rt; durable.trim_after(trim.items(), RING), 4);
     durable.take(&trim)?;
     assert_eq!(rt; durable.trim(RING), 4);
     assert_eq!(rt;
@@ -92,8 +93,8 @@ fn other_ballots_stay_apart(rt: HostRuntime) -> Result<(), Fail> {
     let alloc = rt.alloc();
     let mut durable = Durable::new(alloc);
     let mut changes = Changes::new(alloc);
-    changes.vote(RING, skip(0, 10, 1))?;
-    changes.vote(RING, skip(3, 5, 4))?;
+    changes.push(Change::Vote(RING, skip(0, 10, 1)))?;
+    changes.push(Change::Vote(RING, skip(3, 5, 4)))?;
     durable.take(&changes)?;
     let want = [(0, 3, 1), (3, 5, 4), (5, 10, 1)];
     assert_eq!(rt;
@@ -124,7 +125,7 @@ fn half_of_all_instances_are_one_range(rt: HostRuntime) -> Result<(), Fail> {
     let half = 1 << 39;
     let mut durable = Durable::new(alloc);
     let mut changes = Changes::new(alloc);
-    changes.vote(OTHER, skip(0, half, 7))?;
+    changes.push(Change::Vote(OTHER, skip(0, half, 7)))?;
     durable.take(&changes)?;
     let want = [(0, half, 7)];
     assert_eq!(rt;
@@ -145,16 +146,16 @@ fn the_last_change_of_a_ring_counts(rt: HostRuntime) -> Result<(), Fail> {
         (0, 0, 0)
     );
     let mut changes = Changes::new(alloc);
-    changes.epoch(1)?;
-    changes.promise(RING, 5)?;
-    changes.promise(OTHER, 6)?;
-    changes.promise(RING, 8)?;
-    changes.trim(OTHER, 2)?;
+    changes.push(Change::Epoch(1))?;
+    changes.push(Change::Promise(RING, 5))?;
+    changes.push(Change::Promise(OTHER, 6))?;
+    changes.push(Change::Promise(RING, 8))?;
+    changes.push(Change::Trim(OTHER, 2))?;
     assert_eq!(rt; changes.items().len(), 5);
-    assert_eq!(rt; changes.promise_of(&durable, RING), 8);
-    assert_eq!(rt; changes.promise_of(&durable, OTHER), 6);
-    assert_eq!(rt; changes.trim_of(&durable, RING), 0);
-    assert_eq!(rt; changes.trim_of(&durable, OTHER), 2);
+    assert_eq!(rt; durable.promise_after(changes.items(), RING), 8);
+    assert_eq!(rt; durable.promise_after(changes.items(), OTHER), 6);
+    assert_eq!(rt; durable.trim_after(changes.items(), RING), 0);
+    assert_eq!(rt; durable.trim_after(changes.items(), OTHER), 2);
     durable.take(&changes)?;
     assert_eq!(rt;
         (
@@ -164,7 +165,7 @@ fn the_last_change_of_a_ring_counts(rt: HostRuntime) -> Result<(), Fail> {
         ),
         (1, 8, 6)
     );
-    assert_eq!(rt; Changes::new(alloc).promise_of(&durable, OTHER), 6);
+    assert_eq!(rt; durable.promise_after(&[], OTHER), 6);
     assert_eq!(rt; durable.promise(RingId(16)), 0);
     Ok(())
 }

@@ -1,0 +1,2 @@
+mod BatchRow
+mod AskedLine
