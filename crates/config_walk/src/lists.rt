@@ -1,0 +1,193 @@
+//! Lists of numbers: of different nodes, and of ids that increase.
+
+ghost use Rattle.std.specs.Prelude.{◌≡◌, ◌++◌, ◌≤◌, ◌<◌, IfOk, OnOk, length, map, Ok};
+ghost use Rattle.std.specs.Option.{option_map};
+ghost use Rattle.toml.specs.View.{view};
+ghost use Rattle.mrp_types.specs.Seats.{is_among as is_among_lem, AreDifferent};
+ghost use Rattle.config_walk.specs.Values.{Says, integers_in as integers_in_lem, integers_of, each_in, numbers_of, each_once, each_rises, each_known, as_nodes as as_nodes_lem, as_rings as as_rings_lem, as_logs as as_logs_lem, seats_of, subscribed_of, logs_of};
+
+use crate::ConfigFault;
+use crate::faults::{out_of_range, repeated, unknown_id};
+use crate::numbers::in_range;
+use crate::values::{integer_in, read_entries};
+use mrp_types::{Items, LogId, NodeId, RingId, Seats};
+use std::alloc::Global;
+use toml::Value;
+
+fn integers_in(alloc: Global, name: &str, values: &[Value]) -> Result<Vec<i64>, ConfigFault>
+    ensures { Says (λ v. v.items) (integers_in_lem name.now (map view values.now)) result }
+{
+    let mut integers = Vec::new(alloc);
+    for value in values {
+        integers.push(integer_in(alloc, name, value)?)?;
+    }
+    Ok(integers)
+}
+
+fn read_integers(alloc: Global, name: &str, found: Option<&Value>) -> Result<Vec<i64>, ConfigFault>
+    ensures { Says (λ v. v.items) (integers_of name.now (option_map (λ v. view v.now) found.entry)) result }
+{
+    let values = read_entries(alloc, name, found)?;
+    integers_in(alloc, name, values)
+}
+
+fn bytes_in(
+    alloc: Global,
+    name: &str,
+    greatest: u8,
+    integers: &[i64],
+) -> Result<Vec<u8>, ConfigFault>
+    ensures walk { Says (λ v. v.items) (each_in name.now greatest integers.now) result }
+    ensures count { IfOk result (λ v. length v.items ≡ length integers.now) }
+{
+    let mut numbers = Vec::new(alloc);
+    for integer in integers {
+        let number = in_range(alloc, name, 0, u64::from(greatest), *integer)?;
+        numbers.push(number as u8)?;
+    }
+    Ok(numbers)
+}
+
+// The numbers of a list of a key that is named so: how many there have to be at least and at most, and the greatest
+// that an entry may be.
+fn read_bytes(
+    alloc: Global,
+    name: &str,
+    fewest: usize,
+    most: usize,
+    greatest: u8,
+    found: Option<&Value>,
+) -> Result<Vec<u8>, ConfigFault>
+    ensures walk { Says (λ v. v.items) (numbers_of name.now fewest most greatest (option_map (λ v. view v.now) found.entry)) result }
+    ensures count { IfOk result (λ v. length v.items ≤ most) }
+{
+    let integers = read_integers(alloc, name, found)?;
+    if integers.len() < fewest {
+        return Err(out_of_range(alloc, name));
+    }
+    if integers.len() > most {
+        return Err(out_of_range(alloc, name));
+    }
+    bytes_in(alloc, name, greatest, &integers)
+}
+
+#[tactic(auto, using(crate::proofs::Among::any_is))]
+fn is_among(number: u8, numbers: &[u8]) -> bool
+    ensures { result ≡ is_among_lem number numbers.now }
+{
+    numbers.contains(&number)
+}
+
+fn is_in_either(number: u8, first: &[u8], second: &[u8]) -> bool
+    ensures { result ≡ is_among_lem number (first.now ++ second.now) }
+{
+    if is_among(number, first) {
+        return true;
+    }
+    is_among(number, second)
+}
+
+// Asks that no number is one of the taken ones, and none stands twice.
+fn judge_once(alloc: Global, name: &str, taken: &[u8], numbers: &[u8]) -> Result<(), ConfigFault>
+    ensures { Says (λ u. u) (each_once name.now taken.now numbers.now) result }
+{
+    for (index, number) in numbers.iter().enumerate() {
+        if is_in_either(*number, taken, &numbers[..index]) {
+            return Err(repeated(alloc, name, *number));
+        }
+    }
+    Ok(())
+}
+
+// Asks that each number is greater than the one before it.
+fn judge_rising(alloc: Global, name: &str, numbers: &[u8]) -> Result<(), ConfigFault>
+    ensures { Says (λ u. u) (each_rises name.now 0 numbers.now) result }
+{
+    let mut least = 0u16;
+    for number in numbers {
+        if u16::from(*number) < least {
+            return Err(repeated(alloc, name, *number));
+        }
+        least = u16::from(*number) + 1;
+    }
+    Ok(())
+}
+
+// Asks that each number is one of these ids.
+fn judge_known(alloc: Global, name: &str, ids: &[u8], numbers: &[u8]) -> Result<(), ConfigFault>
+    ensures { Says (λ u. u) (each_known name.now ids.now numbers.now) result }
+{
+    for number in numbers {
+        if !is_among(*number, ids) {
+            return Err(unknown_id(alloc, name, *number));
+        }
+    }
+    Ok(())
+}
+
+fn as_nodes(alloc: Global, numbers: &[u8]) -> Result<Seats, ConfigFault>
+    requires few { length numbers.now ≤ 7 }
+    requires different { AreDifferent numbers.now }
+    ensures { Says (λ s. s) (Ok (as_nodes_lem numbers.now)) result }
+{
+    let nodes: Vec<NodeId> = numbers.iter().map(|n| NodeId(*n)).collect(alloc)?;
+    Ok(Seats::from_slice(&nodes))
+}
+
+fn as_rings(alloc: Global, numbers: &[u8]) -> Result<Items<RingId>, ConfigFault>
+    ensures { Says (λ s. s) (Ok (as_rings_lem numbers.now)) result }
+{
+    let rings = numbers.iter().map(|n| RingId(*n)).collect(alloc)?;
+    Ok(Items::from_vec(rings))
+}
+
+fn as_logs(alloc: Global, numbers: &[u8]) -> Result<Items<LogId>, ConfigFault>
+    ensures { Says (λ s. s) (Ok (as_logs_lem numbers.now)) result }
+{
+    let logs = numbers.iter().map(|n| LogId(*n)).collect(alloc)?;
+    Ok(Items::from_vec(logs))
+}
+
+/// The different nodes of a key that is named so: of these ids, and none that is taken.
+pub fn read_seats(
+    alloc: Global,
+    name: &str,
+    taken: &[u8],
+    ids: &[u8],
+    found: Option<&Value>,
+) -> Result<Seats, ConfigFault>
+    ensures { Says (λ s. s) (seats_of name.now taken.now ids.now (option_map (λ v. view v.now) found.entry)) result }
+{
+    let numbers = read_bytes(alloc, name, 1, 7, 31, found)?;
+    judge_once(alloc, name, taken, &numbers)?;
+    judge_known(alloc, name, ids, &numbers)?;
+    as_nodes(alloc, &numbers)
+}
+
+/// The rings of a key that is named so, in increasing order and of these ids.
+pub fn read_rings(
+    alloc: Global,
+    name: &str,
+    ids: &[u8],
+    found: Option<&Value>,
+) -> Result<Items<RingId>, ConfigFault>
+    ensures { Says (λ s. s) (subscribed_of name.now ids.now (option_map (λ v. view v.now) found.entry)) result }
+{
+    let numbers = read_bytes(alloc, name, 1, 16, 15, found)?;
+    judge_rising(alloc, name, &numbers)?;
+    judge_known(alloc, name, ids, &numbers)?;
+    as_rings(alloc, &numbers)
+}
+
+/// The logs of a key that is named so, in increasing order.
+pub fn read_logs(
+    alloc: Global,
+    name: &str,
+    found: Option<&Value>,
+) -> Result<Items<LogId>, ConfigFault>
+    ensures { Says (λ s. s) (logs_of name.now (option_map (λ v. view v.now) found.entry)) result }
+{
+    let numbers = read_bytes(alloc, name, 0, 64, 63, found)?;
+    judge_rising(alloc, name, &numbers)?;
+    as_logs(alloc, &numbers)
+}
