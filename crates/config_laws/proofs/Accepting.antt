@@ -5,11 +5,13 @@ use Rattle.toml.specs.Data.{string}
 use Rattle.mrp_config.specs.declared.tables.NodeTable.{NodeTable}
 use Rattle.mrp_config.specs.declared.tables.ClientTable.{ClientTable}
 use Rattle.mrp_config.specs.declared.tables.RingTable.{RingTable}
-use Rattle.mrp_config.specs.Address.{IsAddress}
-use Rattle.mrp_config.specs.Walk.{address_of, id_of, seats_of, numbers_of_nodes, node_of, nodes_of, client_of, clients_of, ring_of, acceptors_of, size_of, rings_of, node_ids, ring_ids}
-use Rattle.mrp_config.specs.Tables.{number, numbers, node_table, client_table, ring_table}
+use Rattle.config_walk.specs.Address.{IsAddress}
+use Rattle.mrp_types.specs.Seats.{numbers_of_nodes}
+use Rattle.config_walk.specs.Values.{address_of, id_of, seats_of}
+use Rattle.mrp_config.specs.Walk.{node_of, nodes_of, client_of, clients_of, ring_of, size_of, rings_of, node_ids, ring_ids}
+use Rattle.config_laws.specs.Tables.{number, numbers, node_table, client_table, ring_table}
 use Rattle.mrp_config.specs.Valid.{IncreasesFrom, AreAtMost, IsBetween, AreSeats, client_ids}
-use Rattle.mrp_config.proofs.Spelled.{step, apart_from_none, number_back, id_back, address_back, seats_back}
+use Rattle.config_laws.proofs.Spelled.{step, apart_from_none, number_back, id_back, address_back, seats_back}
 
 -- ---- nodes and clients
 
@@ -41,7 +43,7 @@ clients_back start (n ∷ ns) low high good =
 
 ring_back : (usual : ℕ) (nodes : List ℕ) (start : ℕ) (r : RingTable) → start ≤ r.id.0 → r.id.0 ≤ 15 → AreSeats nodes (numbers_of_nodes r.acceptors) → IsBetween 1 1024 r.m
     → ring_of usual nodes start (ring_table r) ≡ Ok r
-unfolding ring_of acceptors_of ring_table
+unfolding ring_of ring_table
 ring_back usual nodes start r low high seats m =
     step (id_of (codes "ring.id") 15 start (Some (number r.id.0))) _ r.id.0 _ (id_back (codes "ring.id") 15 start r.id.0 low high)
     (step (seats_of (codes "ring.acceptors") [] nodes (Some (numbers (numbers_of_nodes r.acceptors)))) _ r.acceptors _ (seats_back (codes "ring.acceptors") [] nodes r.acceptors seats (apart_from_none (numbers_of_nodes r.acceptors)))

@@ -4,18 +4,21 @@ use Rattle.std.proofs.lemmas.Bool.{le-leb, lt-ltb}
 use Rattle.std.proofs.lemmas.List.{length-map}
 use Rattle.std.proofs.lemmas.Slice.Eq.{bytes_eq-Decides}
 use Rattle.std.specs.List.{AllByRecursion}
-use Rattle.toml.specs.Data.{get_member}
+use Rattle.toml.specs.Data.{string}
+use Rattle.hex.specs.Hex.{encode_lower}
 use Rattle.mrp_types.specs.declared.id.NodeId.{NodeId}
 use Rattle.mrp_types.specs.declared.id.RingId.{RingId}
 use Rattle.mrp_types.specs.declared.id.LogId.{LogId}
-use Rattle.mrp_config.specs.declared.fault.ConfigFault.TheVariants.{UnknownId}
+use Rattle.config_walk.specs.declared.fault.ConfigFault.TheVariants.{UnknownId}
 use Rattle.mrp_config.specs.declared.tables.PartitionTable.{PartitionTable}
 use Rattle.mrp_config.specs.Config.{has_ring}
-use Rattle.mrp_config.specs.Walk.{unless, number_of, numbers_of, is_among, each_rises, each_known, id_of, numbers_of_nodes, all_known, subscribed_of, home_of, logs_of, as_rings, as_logs, replicas_at, rings_at, home_at, from_at, to_at, logs_at, trim_quorum_at, recovery_quorum_at, partition_names, partition_of, partitions_of, has_quorums, quorums_meet, ranges_follow, first_taken, logs_once, judged}
-use Rattle.mrp_config.specs.Tables.{number, numbers, partition_table}
-use Rattle.mrp_config.specs.Valid.{IncreasesFrom, AreAtMost, AreAmong, AreApart, AreAllApart, IsBetween, IsKey, AreQuorums, IsPartition, ArePartitions, AreEndToEnd, numbers_of_rings, numbers_of_logs, partition_ids, replicas_of, logs_of as lists_of_logs}
-use Rattle.mrp_config.proofs.Spelled.{step, passes, apart_from_none, number_back, id_back, hex_back, min_of, numbers_back, rises_back, known_back, seats_back, all_join}
-use Rattle.mrp_config.proofs.Routes.{has_is_among}
+use Rattle.mrp_types.specs.Seats.{is_among, numbers_of_nodes}
+use Rattle.config_walk.specs.Values.{unless, number_of, numbers_of, each_rises, each_known, id_of, all_known, subscribed_of, logs_of, as_rings, as_logs, seats_of, hex_of, quorum_of}
+use Rattle.mrp_config.specs.Walk.{home_of, partition_names, partition_of, partitions_of, has_quorums, quorums_meet, ranges_follow, first_taken, logs_once, judged}
+use Rattle.config_laws.specs.Tables.{number, numbers, partition_table}
+use Rattle.mrp_config.specs.Valid.{IncreasesFrom, AreAtMost, AreAmong, AreApart, AreAllApart, IsBetween, AreQuorums, IsPartition, ArePartitions, AreEndToEnd, numbers_of_rings, numbers_of_logs, partition_ids, replicas_of, logs_of as lists_of_logs}
+use Rattle.config_laws.proofs.Spelled.{step, passes, apart_from_none, number_back, id_back, hex_back, min_of, numbers_back, rises_back, known_back, seats_back, all_join}
+use Rattle.mrp_config.proofs.Members.{has_is_among}
 use Rattle.mrp_config.proofs.AcceptedPartitions.{as_many_rings, as_many_logs, not_empty, is_among_logs, joined_logs}
 
 -- ---- the lists of one partition
@@ -33,6 +36,7 @@ as_many_nodes nodes = length-map nodes (λ (n : NodeId). n.0)
 
 subscribed_back : (name rings : List ℕ) (own : List RingId) → IsBetween 1 16 (length own) → AreAtMost 15 (numbers_of_rings own) → IncreasesFrom 0 (numbers_of_rings own) → AreAmong rings (numbers_of_rings own) →
     subscribed_of name rings (Some (numbers (numbers_of_rings own))) ≡ Ok own
+unfolding subscribed_of
 subscribed_back name rings own few low increase known =
     let ns = numbers_of_rings own in
     let many = as_many_rings own in
@@ -49,72 +53,42 @@ among_most most n (m ∷ ns) low h = by_test (m == n) refl h (among_most most n 
     by_test true is h later = let same : m ≡ n = grind arith in subst (λ k. k ≤ most) same low.0
     by_test false is h later = later h
 
-home_back : (name : List ℕ) (rings : List RingId) (home : RingId) → AreAtMost 15 (numbers_of_rings rings) → is_among home.0 (numbers_of_rings rings) ≡ true → home_of name rings (Some (number home.0)) ≡ Ok home
-home_back name rings home low h =
+home_back : (rings : List RingId) (home : RingId) → AreAtMost 15 (numbers_of_rings rings) → is_among home.0 (numbers_of_rings rings) ≡ true → home_of rings (Some (number home.0)) ≡ Ok home
+unfolding home_of
+home_back rings home low h =
     let known : has_ring rings home.0 ≡ true = has_is_among rings home.0 ∙ h in
-    step (number_of name 0 15 (Some (number home.0))) _ home.0 _ (number_back name 0 15 home.0 (omega arith, among_most 15 home.0 (numbers_of_rings rings) low h))
-    (step (unless (has_ring rings home.0) (UnknownId name home.0)) _ tt _ (passes (has_ring rings home.0) (UnknownId name home.0) known) refl)
+    step (number_of (codes "partition.home") 0 15 (Some (number home.0))) _ home.0 _ (number_back (codes "partition.home") 0 15 home.0 (omega arith, among_most 15 home.0 (numbers_of_rings rings) low h))
+    (step (unless (has_ring rings home.0) (UnknownId (codes "partition.home") home.0)) _ tt _ (passes (has_ring rings home.0) (UnknownId (codes "partition.home") home.0) known) refl)
 
 logs_of_back : (name : List ℕ) (logs : List LogId) → length logs ≤ 64 → AreAtMost 63 (numbers_of_logs logs) → IncreasesFrom 0 (numbers_of_logs logs) → logs_of name (Some (numbers (numbers_of_logs logs))) ≡ Ok logs
+unfolding logs_of
 logs_of_back name logs few low increase =
     let ns = numbers_of_logs logs in
     step (numbers_of name 0 64 63 (Some (numbers ns))) _ ns _ (numbers_back name 0 64 63 ns (omega arith, rw (as_many_logs logs) few) low)
     (step (each_rises name 0 ns) _ tt _ (rises_back name 0 ns increase) (ap Ok (logs_again logs)))
 
-replicas_at_back : (nodes rings taken : List ℕ) (p : PartitionTable) → AreApart taken (numbers_of_nodes p.replicas) → IsPartition nodes rings p → replicas_at nodes taken (partition_table p) ≡ Ok p.replicas
-unfolding replicas_at partition_table
-replicas_at_back nodes rings taken p free good = seats_back (codes "partition.replicas") taken nodes p.replicas good.replicas free
-
-rings_at_back : (nodes rings : List ℕ) (p : PartitionTable) → IsPartition nodes rings p → rings_at rings (partition_table p) ≡ Ok p.rings
-unfolding rings_at partition_table
-rings_at_back nodes rings p good = subscribed_back (codes "partition.rings") rings p.rings good.some good.numbers good.increase good.known
-
-home_at_back : (nodes rings : List ℕ) (p : PartitionTable) → IsPartition nodes rings p → home_at p.rings (partition_table p) ≡ Ok p.home
-unfolding home_at partition_table
-home_at_back nodes rings p good = home_back (codes "partition.home") p.rings p.home good.numbers good.home
-
-from_at_back : (p : PartitionTable) → IsKey p.from → from_at (partition_table p) ≡ Ok p.from
-unfolding from_at partition_table
-from_at_back p good = hex_back (codes "partition.from") p.from good
-
-to_at_back : (p : PartitionTable) → IsKey p.to → to_at (partition_table p) ≡ Ok p.to
-unfolding to_at partition_table
-to_at_back p good = hex_back (codes "partition.to") p.to good
-
-logs_at_back : (nodes rings : List ℕ) (p : PartitionTable) → IsPartition nodes rings p → logs_at (partition_table p) ≡ Ok p.logs
-unfolding logs_at partition_table
-logs_at_back nodes rings p good = logs_of_back (codes "partition.logs") p.logs good.few_logs good.low_logs good.logs
-
-trim_back : (p : PartitionTable) → p.trim_quorum ≤ 255 → trim_quorum_at (partition_table p) ≡ Ok p.trim_quorum
-unfolding trim_quorum_at partition_table
-trim_back p low = rw (min_of p.trim_quorum 255 low) refl
-
-recovery_back : (p : PartitionTable) → p.recovery_quorum ≤ 255 → recovery_quorum_at (partition_table p) ≡ Ok p.recovery_quorum
-unfolding recovery_quorum_at partition_table
-recovery_back p low = rw (min_of p.recovery_quorum 255 low) refl
+quorum_back : (name : List ℕ) (n : ℕ) → n ≤ 255 → quorum_of name (Some (number n)) ≡ Ok n
+unfolding quorum_of
+quorum_back name n low = rw (min_of n 255 low) refl
 
 names_known : (p : PartitionTable) → all_known (codes "partition.") partition_names (partition_table p) ≡ Ok tt
 unfolding partition_table
 names_known p = refl
 
-id_at : (start : ℕ) (p : PartitionTable) → id_of (codes "partition.id") 15 start (Some (number p.id.0)) ≡ Ok p.id.0 → id_of (codes "partition.id") 15 start (get_member (codes "id") (partition_table p)) ≡ Ok p.id.0
-unfolding partition_table
-id_at start p h = h
-
 partition_back : (nodes rings taken : List ℕ) (start : ℕ) (p : PartitionTable) → start ≤ p.id.0 → p.id.0 ≤ 15 → AreApart taken (numbers_of_nodes p.replicas) → IsPartition nodes rings p →
     AreQuorums (length p.replicas) p.trim_quorum p.recovery_quorum → partition_of nodes rings taken start (partition_table p) ≡ Ok p
-unfolding partition_of
+unfolding partition_of partition_table
 partition_back nodes rings taken start p low high free good meet =
     let replicas : length p.replicas ≤ 7 = rw (← as_many_nodes p.replicas) good.replicas.few.1 in
-    step (id_of (codes "partition.id") 15 start (get_member (codes "id") (partition_table p))) _ p.id.0 _ (id_at start p (id_back (codes "partition.id") 15 start p.id.0 low high))
-    (step (replicas_at nodes taken (partition_table p)) _ p.replicas _ (replicas_at_back nodes rings taken p free good)
-    (step (rings_at rings (partition_table p)) _ p.rings _ (rings_at_back nodes rings p good)
-    (step (home_at p.rings (partition_table p)) _ p.home _ (home_at_back nodes rings p good)
-    (step (from_at (partition_table p)) _ p.from _ (from_at_back p good.from)
-    (step (to_at (partition_table p)) _ p.to _ (to_at_back p good.to)
-    (step (logs_at (partition_table p)) _ p.logs _ (logs_at_back nodes rings p good)
-    (step (trim_quorum_at (partition_table p)) _ p.trim_quorum _ (trim_back p (omega (arith, meet.trims.1, replicas)))
-    (step (recovery_quorum_at (partition_table p)) _ p.recovery_quorum _ (recovery_back p (omega (arith, meet.recovers.1, replicas)))
+    step (id_of (codes "partition.id") 15 start (Some (number p.id.0))) _ p.id.0 _ (id_back (codes "partition.id") 15 start p.id.0 low high)
+    (step (seats_of (codes "partition.replicas") taken nodes (Some (numbers (numbers_of_nodes p.replicas)))) _ p.replicas _ (seats_back (codes "partition.replicas") taken nodes p.replicas good.replicas free)
+    (step (subscribed_of (codes "partition.rings") rings (Some (numbers (numbers_of_rings p.rings)))) _ p.rings _ (subscribed_back (codes "partition.rings") rings p.rings good.some good.numbers good.increase good.known)
+    (step (home_of p.rings (Some (number p.home.0))) _ p.home _ (home_back p.rings p.home good.numbers good.home)
+    (step (hex_of (codes "partition.from") (Some (string (encode_lower p.from)))) _ p.from _ (hex_back (codes "partition.from") p.from good.from)
+    (step (hex_of (codes "partition.to") (Some (string (encode_lower p.to)))) _ p.to _ (hex_back (codes "partition.to") p.to good.to)
+    (step (logs_of (codes "partition.logs") (Some (numbers (numbers_of_logs p.logs)))) _ p.logs _ (logs_of_back (codes "partition.logs") p.logs good.few_logs good.low_logs good.logs)
+    (step (quorum_of (codes "partition.trim_quorum") (Some (number p.trim_quorum))) _ p.trim_quorum _ (quorum_back (codes "partition.trim_quorum") p.trim_quorum (omega (arith, meet.trims.1, replicas)))
+    (step (quorum_of (codes "partition.recovery_quorum") (Some (number p.recovery_quorum))) _ p.recovery_quorum _ (quorum_back (codes "partition.recovery_quorum") p.recovery_quorum (omega (arith, meet.recovers.1, replicas)))
     (step (all_known (codes "partition.") partition_names (partition_table p)) _ tt _ (names_known p) refl)))))))))
 
 -- ---- all of them

@@ -1,10 +1,11 @@
 -- The walk on tables written out: what each row gives, by computing.
 use Rattle.std.proofs.Common.{◌≡◌, refl, pos, negsuc, [], ◌∷◌, codes, Some, None, true, false, Ok, Err}
 use Rattle.toml.specs.Data.{string, integer, boolean, array, no_items, item, no_members, member}
-use Rattle.mrp_config.specs.declared.fault.ConfigFault.TheVariants.{Missing, WrongKind, OutOfRange, Repeated, UnknownId, UnknownName}
+use Rattle.config_walk.specs.declared.fault.ConfigFault.TheVariants.{Missing, WrongKind, OutOfRange, Repeated, UnknownId, UnknownName}
 use Rattle.std.specs.Net.Reader.{read_number}
-use Rattle.mrp_config.specs.Address.{is_address, past_ip, past_number}
-use Rattle.mrp_config.specs.Walk.{number_of, seats_of, hex_of, all_known, tables_of, has_quorums}
+use Rattle.config_walk.specs.Address.{is_address, past_ip, past_number}
+use Rattle.config_walk.specs.Values.{number_of, seats_of, hex_of, all_known, tables_of}
+use Rattle.mrp_config.specs.Walk.{has_quorums}
 
 addresses_are_read : is_address (codes "127.0.0.1:7100") ≡ true
 unfolding past_ip past_number read_number
@@ -51,21 +52,27 @@ m_as_text : number_of (codes "m") 1 1024 (Some (string (codes "1"))) ≡ Err (Wr
 m_as_text = refl
 
 kind_before_range : seats_of (codes "ring.acceptors") [] (0 ∷ []) (Some (array (item (integer (pos 99)) (item (boolean true) no_items)))) ≡ Err (WrongKind (codes "ring.acceptors"))
+unfolding seats_of
 kind_before_range = refl
 
 range_before_repeat : seats_of (codes "ring.acceptors") [] (0 ∷ []) (Some (array (item (integer (pos 0)) (item (integer (pos 0)) (item (integer (pos 32)) no_items))))) ≡ Err (OutOfRange (codes "ring.acceptors"))
+unfolding seats_of
 range_before_repeat = refl
 
 repeat_before_unknown : seats_of (codes "ring.acceptors") [] (0 ∷ []) (Some (array (item (integer (pos 5)) (item (integer (pos 5)) no_items)))) ≡ Err (Repeated (codes "ring.acceptors") 5)
+unfolding seats_of
 repeat_before_unknown = refl
 
 unknown_node : seats_of (codes "ring.acceptors") [] (0 ∷ []) (Some (array (item (integer (pos 5)) no_items))) ≡ Err (UnknownId (codes "ring.acceptors") 5)
+unfolding seats_of
 unknown_node = refl
 
 no_acceptor : seats_of (codes "ring.acceptors") [] (0 ∷ []) (Some (array no_items)) ≡ Err (OutOfRange (codes "ring.acceptors"))
+unfolding seats_of
 no_acceptor = refl
 
 odd_text : hex_of (codes "partition.to") (Some (string (codes "6"))) ≡ Err (OutOfRange (codes "partition.to"))
+unfolding hex_of
 odd_text = refl
 
 colour_is_unknown : all_known (codes "ring.") (codes "id" ∷ []) (member (codes "colour") (integer (pos 1)) (member (codes "id") (integer (pos 1)) no_members)) ≡ Err (UnknownName (codes "ring.colour"))

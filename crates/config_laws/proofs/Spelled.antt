@@ -9,15 +9,16 @@ use Rattle.hex.specs.Hex.{encode_lower}
 use Rattle.hex.proofs.HexLemmas.{decode_of-encode_lower}
 use Rattle.mrp_types.proofs.TestLemmas.{not_above}
 use Rattle.mrp_types.specs.declared.id.NodeId.{NodeId}
-use Rattle.mrp_config.specs.declared.fault.ConfigFault.{ConfigFault}
-use Rattle.mrp_config.specs.declared.fault.ConfigFault.TheVariants.{OutOfRange, Repeated}
-use Rattle.mrp_config.proofs.Addresses.{is_an_address}
-use Rattle.mrp_config.specs.Address.{is_address, IsAddress}
-use Rattle.mrp_config.specs.Walk.{◌>>=◌, chain, unless, integer_in, in_range, number_of, address_of, decoded, hex_of, integers_of, each_in, numbers_of, is_among, each_once, each_rises, each_known, id_of, as_nodes, seats_of, numbers_of_nodes, tables_in, tables_of, some_tables}
-use Rattle.mrp_config.specs.Tables.{number, numbers, tables_with}
+use Rattle.config_walk.specs.declared.fault.ConfigFault.{ConfigFault}
+use Rattle.config_walk.specs.declared.fault.ConfigFault.TheVariants.{OutOfRange, Repeated}
+use Rattle.config_walk.proofs.Addresses.{is_an_address}
+use Rattle.config_walk.specs.Address.{is_address, IsAddress}
+use Rattle.mrp_types.specs.Seats.{is_among, numbers_of_nodes}
+use Rattle.config_walk.specs.Values.{◌>>=◌, chain, unless, integer_in, in_range, number_of, address_of, decoded, hex_of, integers_of, each_in, numbers_of, each_once, each_rises, each_known, id_of, as_nodes, seats_of, tables_in, tables_of, some_tables}
+use Rattle.config_laws.specs.Tables.{number, numbers, tables_with}
 use Rattle.mrp_config.specs.Valid.{IncreasesFrom, AreAtMost, AreAmong, AreDifferent, AreApart, IsBetween, AreSeats, IsKey}
-use Rattle.mrp_config.proofs.Among.{in_none, none_of, turned}
-use Rattle.mrp_config.proofs.Views.{entries_of_items}
+use Rattle.config_walk.proofs.Among.{in_none, none_of, turned}
+use Rattle.config_walk.proofs.Views.{entries_of_items}
 
 -- ---- steps
 
@@ -47,6 +48,7 @@ decoded_back : (name bytes : List ℕ) → IsKey bytes → decoded name (encode_
 decoded_back name bytes h = rw ((bytes_eq-Decides (encode_lower bytes) (encode_lower bytes)).1 refl, le-leb (length bytes) 256 h.few) refl
 
 pub hex_back : (name bytes : List ℕ) → IsKey bytes → hex_of name (Some (string (encode_lower bytes))) ≡ Ok bytes
+unfolding hex_of
 hex_back name bytes h = ap (decoded name (encode_lower bytes)) (decode_of-encode_lower bytes h.bytes) ∙ decoded_back name bytes h
 
 pub min_of : (n most : ℕ) → n ≤ most → min n most ≡ n
@@ -108,6 +110,7 @@ nodes_back [] = refl
 nodes_back (s ∷ seats) = ap (λ (l : List NodeId). s ∷ l) (nodes_back seats)
 
 pub seats_back : (name taken ids : List ℕ) (seats : List NodeId) → AreSeats ids (numbers_of_nodes seats) → AreApart taken (numbers_of_nodes seats) → seats_of name taken ids (Some (numbers (numbers_of_nodes seats))) ≡ Ok seats
+unfolding seats_of
 seats_back name taken ids seats h free =
     let ns = numbers_of_nodes seats in
     step (numbers_of name 1 7 31 (Some (numbers ns))) _ ns _ (numbers_back name 1 7 31 ns h.few h.numbers)

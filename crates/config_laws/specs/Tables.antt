@@ -8,7 +8,7 @@ use Rattle.mrp_config.specs.declared.tables.ClientTable.{ClientTable}
 use Rattle.mrp_config.specs.declared.tables.RingTable.{RingTable}
 use Rattle.mrp_config.specs.declared.tables.PartitionTable.{PartitionTable}
 use Rattle.mrp_config.specs.Config.{Config}
-use Rattle.mrp_config.specs.Walk.{numbers_of_nodes}
+use Rattle.mrp_types.specs.Seats.{numbers_of_nodes}
 use Rattle.mrp_config.specs.Valid.{numbers_of_rings, numbers_of_logs}
 
 abbrev pub number : ℕ → Data

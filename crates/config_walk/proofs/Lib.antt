@@ -2,6 +2,6 @@ pub mod Addresses
 pub mod Among
 pub mod Chains
 pub mod Digits
-pub mod Names
+pub mod Known
 pub mod Seen
 pub mod Views

@@ -104,6 +104,7 @@ decoded_saw name text (Ok found) bytes is h =
     subst IsKey same (record { few = leb-true (length found) 256 pair.1; bytes = (decode_of-ok text found is).3 })
 
 pub hex_saw : (name : List ℕ) (found : Option Data) (bytes : List ℕ) → hex_of name found ≡ Ok bytes → IsKey bytes
+unfolding hex_of
 hex_saw name found bytes h =
     let a = bound (text_of name found) _ bytes h in
     decoded_saw name a.0 (decode_of a.0) bytes refl a.2
@@ -165,6 +166,7 @@ back_to_numbers [] = refl
 back_to_numbers (n ∷ ns) = ap (λ (l : List ℕ). n ∷ l) (back_to_numbers ns)
 
 pub seats_saw : (name taken ids : List ℕ) (found : Option Data) (seats : List NodeId) → seats_of name taken ids found ≡ Ok seats → AreSeats ids (numbers_of_nodes seats) × AreApart taken (numbers_of_nodes seats)
+unfolding seats_of
 seats_saw name taken ids found seats h =
     let a = bound (numbers_of name 1 7 31 found) _ seats h in
     let b = bound (each_once name taken a.0) _ seats a.2 in

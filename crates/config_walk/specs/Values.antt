@@ -64,7 +64,7 @@ abbrev pub clipped : ℤ → ℕ
 clipped (pos n) = min n 255
 clipped (negsuc n) = 0
 
-abbrev pub quorum_of : List ℕ → Option Data → Result ℕ ConfigFault
+unfoldable pub quorum_of : List ℕ → Option Data → Result ℕ ConfigFault
 quorum_of name found = do
   z ← integer_of name found
   Ok (clipped z)
@@ -85,7 +85,7 @@ abbrev pub decoded : List ℕ → List ℕ → Result (List ℕ) FromHexError �
 decoded name text (Err e) = Err (OutOfRange name)
 decoded name text (Ok bytes) = if bytes_eq (encode_lower bytes) text && nat_le (length bytes) 256 then Ok bytes else Err (OutOfRange name)
 
-abbrev pub hex_of : List ℕ → Option Data → Result (List ℕ) ConfigFault
+unfoldable pub hex_of : List ℕ → Option Data → Result (List ℕ) ConfigFault
 hex_of name found = do
   text ← text_of name found
   decoded name text (decode_of text)
@@ -153,7 +153,7 @@ abbrev pub as_nodes : List ℕ → List NodeId
 as_nodes ns = map (λ n. record { 0 = n }) ns
 
 -- different nodes that are there and aren't taken
-abbrev pub seats_of : List ℕ → List ℕ → List ℕ → Option Data → Result (List NodeId) ConfigFault
+unfoldable pub seats_of : List ℕ → List ℕ → List ℕ → Option Data → Result (List NodeId) ConfigFault
 seats_of name taken ids found = do
   ns ← numbers_of name 1 7 31 found
   once ← each_once name taken ns
@@ -166,14 +166,14 @@ as_rings ns = map (λ n. record { 0 = n }) ns
 abbrev pub as_logs : List ℕ → List LogId
 as_logs ns = map (λ n. record { 0 = n }) ns
 
-abbrev pub subscribed_of : List ℕ → List ℕ → Option Data → Result (List RingId) ConfigFault
+unfoldable pub subscribed_of : List ℕ → List ℕ → Option Data → Result (List RingId) ConfigFault
 subscribed_of name rings found = do
   ns ← numbers_of name 1 16 15 found
   rising ← each_rises name 0 ns
   known ← each_known name rings ns
   Ok (as_rings ns)
 
-abbrev pub logs_of : List ℕ → Option Data → Result (List LogId) ConfigFault
+unfoldable pub logs_of : List ℕ → Option Data → Result (List LogId) ConfigFault
 logs_of name found = do
   ns ← numbers_of name 0 64 63 found
   rising ← each_rises name 0 ns

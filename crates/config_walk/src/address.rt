@@ -7,9 +7,9 @@ ghost use Rattle.toml.specs.View.{view};
 ghost use Rattle.config_walk.specs.Address.{past_number as past_number_lem, past_byte as past_byte_lem, past_part as past_part_lem, past_ip as past_ip_lem, is_address as is_address_lem};
 ghost use Rattle.config_walk.specs.Values.{Says, address_of};
 
+use crate::ConfigFault;
 use crate::faults::out_of_range;
 use crate::values::read_text;
-use crate::ConfigFault;
 use mrp_types::Octets;
 use std::alloc::Global;
 use toml::Value;

@@ -8,9 +8,9 @@ ghost use Rattle.toml.specs.View.{view};
 ghost use Rattle.config_walk.specs.declared.fault.ConfigFault.TheVariants.{OutOfRange, Memory};
 ghost use Rattle.config_walk.specs.Values.{Says, decoded as decoded_lem, hex_of};
 
+use crate::ConfigFault;
 use crate::faults::out_of_range;
 use crate::values::read_text;
-use crate::ConfigFault;
 use hex::FromHexError;
 use mrp_types::Octets;
 use std::alloc::Global;
@@ -20,6 +20,7 @@ use toml::Value;
 const LIMIT: usize = 256;
 
 /// The bytes that the text of a key that is named so spells, at most 256.
+#[tactic(auto, unfolding(crate::specs::Values::hex_of))]
 pub fn read_hex(alloc: Global, name: &str, found: Option<&Value>) -> Result<Octets, ConfigFault>
     ensures { Says (λ b. b) (hex_of name.now (option_map (λ v. view v.now) found.entry)) result }
 {

@@ -10,7 +10,7 @@ use crate::ConfigFault;
 use crate::faults::{out_of_range, repeated, unknown_id};
 use crate::numbers::in_range;
 use crate::values::{integer_in, read_entries};
-use mrp_types::{Items, LogId, NodeId, RingId, Seats};
+use mrp_types::{Items, LogId, Memory, NodeId, RingId, Seats};
 use std::alloc::Global;
 use toml::Value;
 
@@ -71,7 +71,6 @@ fn read_bytes(
     bytes_in(alloc, name, greatest, &integers)
 }
 
-#[tactic(auto, using(crate::proofs::Among::any_is))]
 fn is_among(number: u8, numbers: &[u8]) -> bool
     ensures { result ≡ is_among_lem number numbers.now }
 {
@@ -125,30 +124,35 @@ fn judge_known(alloc: Global, name: &str, ids: &[u8], numbers: &[u8]) -> Result<
     Ok(())
 }
 
-fn as_nodes(alloc: Global, numbers: &[u8]) -> Result<Seats, ConfigFault>
+fn as_nodes(alloc: Global, numbers: &[u8]) -> Result<Vec<NodeId>, Memory>
+    ensures { IfOk result (λ nodes. nodes.items ≡ as_nodes_lem numbers.now) }
+{
+    Ok(numbers.iter().map(|n| NodeId(*n)).collect(alloc)?)
+}
+
+fn as_seats(alloc: Global, numbers: &[u8]) -> Result<Seats, Memory>
     requires few { length numbers.now ≤ 7 }
     requires different { AreDifferent numbers.now }
-    ensures { Says (λ s. s) (Ok (as_nodes_lem numbers.now)) result }
+    ensures { IfOk result (λ seats. seats ≡ as_nodes_lem numbers.now) }
 {
-    let nodes: Vec<NodeId> = numbers.iter().map(|n| NodeId(*n)).collect(alloc)?;
+    let nodes = as_nodes(alloc, numbers)?;
     Ok(Seats::from_slice(&nodes))
 }
 
-fn as_rings(alloc: Global, numbers: &[u8]) -> Result<Items<RingId>, ConfigFault>
-    ensures { Says (λ s. s) (Ok (as_rings_lem numbers.now)) result }
+fn as_rings(alloc: Global, numbers: &[u8]) -> Result<Vec<RingId>, Memory>
+    ensures { IfOk result (λ rings. rings.items ≡ as_rings_lem numbers.now) }
 {
-    let rings = numbers.iter().map(|n| RingId(*n)).collect(alloc)?;
-    Ok(Items::from_vec(rings))
+    Ok(numbers.iter().map(|n| RingId(*n)).collect(alloc)?)
 }
 
-fn as_logs(alloc: Global, numbers: &[u8]) -> Result<Items<LogId>, ConfigFault>
-    ensures { Says (λ s. s) (Ok (as_logs_lem numbers.now)) result }
+fn as_logs(alloc: Global, numbers: &[u8]) -> Result<Vec<LogId>, Memory>
+    ensures { IfOk result (λ logs. logs.items ≡ as_logs_lem numbers.now) }
 {
-    let logs = numbers.iter().map(|n| LogId(*n)).collect(alloc)?;
-    Ok(Items::from_vec(logs))
+    Ok(numbers.iter().map(|n| LogId(*n)).collect(alloc)?)
 }
 
 /// The different nodes of a key that is named so: of these ids, and none that is taken.
+#[tactic(auto, unfolding(crate::specs::Values::seats_of))]
 pub fn read_seats(
     alloc: Global,
     name: &str,
@@ -161,10 +165,11 @@ pub fn read_seats(
     let numbers = read_bytes(alloc, name, 1, 7, 31, found)?;
     judge_once(alloc, name, taken, &numbers)?;
     judge_known(alloc, name, ids, &numbers)?;
-    as_nodes(alloc, &numbers)
+    Ok(as_seats(alloc, &numbers)?)
 }
 
 /// The rings of a key that is named so, in increasing order and of these ids.
+#[tactic(auto, unfolding(crate::specs::Values::subscribed_of))]
 pub fn read_rings(
     alloc: Global,
     name: &str,
@@ -176,10 +181,11 @@ pub fn read_rings(
     let numbers = read_bytes(alloc, name, 1, 16, 15, found)?;
     judge_rising(alloc, name, &numbers)?;
     judge_known(alloc, name, ids, &numbers)?;
-    as_rings(alloc, &numbers)
+    Ok(Items::from_vec(as_rings(alloc, &numbers)?))
 }
 
 /// The logs of a key that is named so, in increasing order.
+#[tactic(auto, unfolding(crate::specs::Values::logs_of))]
 pub fn read_logs(
     alloc: Global,
     name: &str,
@@ -189,5 +195,5 @@ pub fn read_logs(
 {
     let numbers = read_bytes(alloc, name, 0, 64, 63, found)?;
     judge_rising(alloc, name, &numbers)?;
-    as_logs(alloc, &numbers)
+    Ok(Items::from_vec(as_logs(alloc, &numbers)?))
 }

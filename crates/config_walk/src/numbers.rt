@@ -5,9 +5,9 @@ ghost use Rattle.std.specs.Option.{option_map};
 ghost use Rattle.toml.specs.View.{view};
 ghost use Rattle.config_walk.specs.Values.{Says, in_range as in_range_lem, number_of, id_of, quorum_of, clipped as clipped_lem};
 
+use crate::ConfigFault;
 use crate::faults::{out_of_range, repeated};
 use crate::values::read_integer;
-use crate::ConfigFault;
 use std::alloc::Global;
 use toml::Value;
 
@@ -68,6 +68,7 @@ pub fn read_id(
 }
 
 /// A quorum of a key that is named so: any integer, which is judged later; below 0 it is kept as 0, past 255 as 255.
+#[tactic(auto, unfolding(crate::specs::Values::quorum_of))]
 pub fn read_quorum(alloc: Global, name: &str, found: Option<&Value>) -> Result<u8, ConfigFault>
     ensures { Says (λ n. n) (quorum_of name.now (option_map (λ v. view v.now) found.entry)) result }
 {

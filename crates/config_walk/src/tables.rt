@@ -5,9 +5,9 @@ ghost use Rattle.std.specs.Option.{option_map};
 ghost use Rattle.toml.specs.View.{view, table_view};
 ghost use Rattle.config_walk.specs.Values.{Says, tables_in as tables_in_lem, some_tables, tables_of};
 
+use crate::ConfigFault;
 use crate::faults::{missing, out_of_range};
 use crate::values::{entries_in, table_in};
-use crate::ConfigFault;
 use std::alloc::Global;
 use toml::{Table, Value};
 

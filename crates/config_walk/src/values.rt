@@ -6,8 +6,8 @@ ghost use Rattle.toml.specs.Data.{get_member};
 ghost use Rattle.toml.specs.View.{view, table_view};
 ghost use Rattle.config_walk.specs.Values.{Says, integer_of, integer_in as integer_in_lem, text_of, entries_of, entries_in as entries_in_lem, table_in as table_in_lem};
 
-use crate::faults::{missing, wrong_kind};
 use crate::ConfigFault;
+use crate::faults::{missing, wrong_kind};
 use std::alloc::Global;
 use toml::{Table, Value};
 

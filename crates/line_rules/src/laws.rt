@@ -15,7 +15,8 @@ ghost use Rattle.line_rules.specs.More.{ReadsOn, ReadsSame};
 ghost use Rattle.line_rules.specs.Names.{Rule};
 ghost use Rattle.line_rules.specs.Follows.{AreInOrder, IsOrdered, delivered};
 ghost use Rattle.line_rules.specs.Rules.{AreFaithful, Answers, Keeps, IsFaithful};
-ghost use Rattle.line_rules.specs.Scanners.{Has, before_attempt, begun, book, learned, told, touches};
+ghost use Rattle.line_rules.specs.Scanners.{before_attempt, begun, book, learned, told, touches};
+ghost use Rattle.quorums.specs.Groups.{Has};
 ghost use Rattle.line_rules.specs.Scanners as scanners;
 ghost use Rattle.line_rules.specs.Verdict.{Faithful, Broken, keeps, verdict, FirstFault};
 

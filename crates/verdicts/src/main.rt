@@ -17,6 +17,8 @@
 mod bytes_of;
 mod journals;
 mod lines;
+#[cfg(test)]
+mod tests;
 mod texts;
 mod verdict;
 

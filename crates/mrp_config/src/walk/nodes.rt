@@ -3,16 +3,14 @@
 ghost use Rattle.std.specs.Prelude.{◌≡◌, ◌≤◌, IfOk, map};
 ghost use Rattle.std.specs.Option.{option_map};
 ghost use Rattle.toml.specs.View.{view, table_view};
-ghost use Rattle.mrp_config.specs.Walk.{Says, node_of, nodes_of, top_nodes, client_of, clients_of, top_clients, acceptors_of, size_of, ring_of, rings_of, top_rings};
+ghost use Rattle.config_walk.specs.Values.{Says};
+ghost use Rattle.mrp_config.specs.Walk.{node_of, nodes_of, top_nodes, client_of, clients_of, top_clients, size_of, ring_of, rings_of, top_rings};
 
-use super::address::read_address;
-use super::names::judge_names;
-use super::numbers::{read_id, read_number};
-use super::seats::read_seats;
-use super::tables::read_tables;
-use super::values::value_at;
-use crate::{ClientTable, ConfigFault, NodeTable, RingTable};
-use mrp_types::{ClientId, NodeId, RingId, Seats};
+use crate::{ClientTable, NodeTable, RingTable};
+use config_walk::{
+    ConfigFault, judge_names, read_address, read_id, read_number, read_seats, read_tables, value_at,
+};
+use mrp_types::{ClientId, NodeId, RingId};
 use std::alloc::Global;
 use toml::{Table, Value};
 
@@ -84,14 +82,6 @@ pub fn read_clients(alloc: Global, table: &Table) -> Result<Vec<ClientTable>, Co
     each_client(alloc, &tables)
 }
 
-#[tactic(auto, unfolding(crate::specs::Walk::acceptors_of))]
-fn read_acceptors(alloc: Global, nodes: &[u8], table: &Table) -> Result<Seats, ConfigFault>
-    ensures { Says (λ s. s) (acceptors_of nodes.now (table_view table.now)) result }
-{
-    let found = value_at(table, "acceptors");
-    read_seats(alloc, "ring.acceptors", &[], nodes, found)
-}
-
 // The size of a ring's round, the usual one where the key is missing.
 fn read_size(alloc: Global, usual: u16, found: Option<&Value>) -> Result<u16, ConfigFault>
     ensures { Says (λ n. n) (size_of usual (option_map (λ v. view v.now) found.entry)) result }
@@ -113,7 +103,8 @@ fn read_ring(
     ensures { Says (λ r. r) (ring_of usual nodes.now least (table_view table.now)) result }
 {
     let id = read_id(alloc, "ring.id", 15, least, value_at(table, "id"))?;
-    let acceptors = read_acceptors(alloc, nodes, table)?;
+    let found = value_at(table, "acceptors");
+    let acceptors = read_seats(alloc, "ring.acceptors", &[], nodes, found)?;
     let m = read_size(alloc, usual, value_at(table, "m"))?;
     judge_names(alloc, "ring.", &["id", "acceptors", "m"], table)?;
     Ok(RingTable {

@@ -1,7 +1,7 @@
 use Rattle.std.proofs.Common.{ap, sym, ◌∙◌, map}
 use Rattle.std.specs.Map.Iter.{deref}
 use Rattle.std.proofs.lemmas.Map.Iter.{rest_more, rest_all}
-use Rattle.config_walk.proofs.Names.{each_known_name, names_of_table, known_goes_on, unknown_ends, named_fails}
+use Rattle.config_walk.proofs.Known.{each_known_name, names_of_table, known_goes_on, unknown_ends, named_fails}
 use Rattle.config_walk.proofs.names.judge_names.Goals as goal
 
 pub loop-key-init : goal.loop-key-init

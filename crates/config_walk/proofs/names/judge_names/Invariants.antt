@@ -1,7 +1,7 @@
 use Rattle.std.proofs.Common.{◌≡◌, map}
 use Rattle.toml.specs.View.{table_view}
 use Rattle.config_walk.specs.Values.{all_known}
-use Rattle.config_walk.proofs.Names.{each_known_name}
+use Rattle.config_walk.proofs.Known.{each_known_name}
 use Rattle.config_walk.proofs.names.judge_names.Given as goal
 
 -- what is left to look through
