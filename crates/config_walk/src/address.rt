@@ -1,9 +1,10 @@
 //! Texts of addresses.
 
 ghost use Rattle.std.specs.Prelude.{◌≡◌, ◌≤◌, ◌<◌, length, IfSome};
-ghost use Rattle.std.specs.Option.{option_map, option_copied};
+ghost use Rattle.std.specs.Option.{option_copied};
 ghost use Rattle.std.specs.Net.Reader.{read_number};
-ghost use Rattle.toml.specs.View.{view};
+ghost use Rattle.toml.specs.Data.{get_member};
+ghost use Rattle.toml.specs.View.{table_view};
 ghost use Rattle.config_walk.specs.Address.{past_number as past_number_lem, past_byte as past_byte_lem, past_part as past_part_lem, past_ip as past_ip_lem, is_address as is_address_lem};
 ghost use Rattle.config_walk.specs.Values.{Says, address_of};
 
@@ -12,7 +13,7 @@ use crate::faults::out_of_range;
 use crate::values::read_text;
 use mrp_types::Octets;
 use std::alloc::Global;
-use toml::Value;
+use toml::Table;
 
 // The value of the decimal digits in front, if there are some and it is at most `most`, and how many they are.
 fn front_number(text: &[u8], most: u32) -> Option<(u32, usize)>
@@ -87,11 +88,16 @@ fn is_address(text: &[u8]) -> bool
     rest.is_empty()
 }
 
-/// The address of a key that is named so, as text.
-pub fn read_address(alloc: Global, name: &str, found: Option<&Value>) -> Result<Octets, ConfigFault>
-    ensures { Says (λ a. a) (address_of name.now (option_map (λ v. view v.now) found.entry)) result }
+/// The address of this key, which faults call `name`, as text.
+pub fn read_address(
+    alloc: Global,
+    table: &Table,
+    key: &str,
+    name: &str,
+) -> Result<Octets, ConfigFault>
+    ensures { Says (λ a. a) (address_of name.now (get_member key.now (table_view table.now))) result }
 {
-    let text = read_text(alloc, name, found)?;
+    let text = read_text(alloc, table, key, name)?;
     if !is_address(text.as_bytes()) {
         return Err(out_of_range(alloc, name));
     }

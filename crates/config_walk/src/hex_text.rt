@@ -1,10 +1,10 @@
 //! Bytes in lower-case hexadecimal.
 
 ghost use Rattle.std.specs.Prelude.{◌≡◌, ◌⊎◌};
-ghost use Rattle.std.specs.Option.{option_map};
 ghost use Rattle.hex.specs.Hex.{decode_of};
 ghost use Rattle.hex.specs.declared.error.FromHexError.TheVariants.{OutOfMemory};
-ghost use Rattle.toml.specs.View.{view};
+ghost use Rattle.toml.specs.Data.{get_member};
+ghost use Rattle.toml.specs.View.{table_view};
 ghost use Rattle.config_walk.specs.declared.fault.ConfigFault.TheVariants.{OutOfRange, Memory};
 ghost use Rattle.config_walk.specs.Values.{Says, decoded as decoded_lem, hex_of};
 
@@ -14,17 +14,17 @@ use crate::values::read_text;
 use hex::FromHexError;
 use mrp_types::Octets;
 use std::alloc::Global;
-use toml::Value;
+use toml::Table;
 
 // The greatest length of a key.
 const LIMIT: usize = 256;
 
-/// The bytes that the text of a key that is named so spells, at most 256.
+/// The bytes that the text of this key, which faults call `name` spells, at most 256.
 #[tactic(auto, unfolding(crate::specs::Values::hex_of))]
-pub fn read_hex(alloc: Global, name: &str, found: Option<&Value>) -> Result<Octets, ConfigFault>
-    ensures { Says (λ b. b) (hex_of name.now (option_map (λ v. view v.now) found.entry)) result }
+pub fn read_hex(alloc: Global, table: &Table, key: &str, name: &str) -> Result<Octets, ConfigFault>
+    ensures { Says (λ b. b) (hex_of name.now (get_member key.now (table_view table.now))) result }
 {
-    let text = read_text(alloc, name, found)?;
+    let text = read_text(alloc, table, key, name)?;
     decoded(alloc, name, text)
 }
 

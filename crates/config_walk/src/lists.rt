@@ -1,8 +1,8 @@
 //! Lists of numbers: of different nodes, and of ids that increase.
 
 ghost use Rattle.std.specs.Prelude.{◌≡◌, ◌++◌, ◌≤◌, ◌<◌, IfOk, OnOk, length, map, Ok};
-ghost use Rattle.std.specs.Option.{option_map};
-ghost use Rattle.toml.specs.View.{view};
+ghost use Rattle.toml.specs.Data.{get_member};
+ghost use Rattle.toml.specs.View.{view, table_view};
 ghost use Rattle.mrp_types.specs.Seats.{is_among as is_among_lem, AreDifferent};
 ghost use Rattle.config_walk.specs.Values.{Says, integers_in as integers_in_lem, integers_of, each_in, numbers_of, each_once, each_rises, each_known, as_nodes as as_nodes_lem, as_rings as as_rings_lem, as_logs as as_logs_lem, seats_of, subscribed_of, logs_of};
 
@@ -12,7 +12,7 @@ use crate::numbers::in_range;
 use crate::values::{integer_in, read_entries};
 use mrp_types::{Items, LogId, Memory, NodeId, RingId, Seats};
 use std::alloc::Global;
-use toml::Value;
+use toml::{Table, Value};
 
 fn integers_in(alloc: Global, name: &str, values: &[Value]) -> Result<Vec<i64>, ConfigFault>
     ensures { Says (λ v. v.items) (integers_in_lem name.now (map view values.now)) result }
@@ -24,10 +24,15 @@ fn integers_in(alloc: Global, name: &str, values: &[Value]) -> Result<Vec<i64>, 
     Ok(integers)
 }
 
-fn read_integers(alloc: Global, name: &str, found: Option<&Value>) -> Result<Vec<i64>, ConfigFault>
-    ensures { Says (λ v. v.items) (integers_of name.now (option_map (λ v. view v.now) found.entry)) result }
+fn read_integers(
+    alloc: Global,
+    table: &Table,
+    key: &str,
+    name: &str,
+) -> Result<Vec<i64>, ConfigFault>
+    ensures { Says (λ v. v.items) (integers_of name.now (get_member key.now (table_view table.now))) result }
 {
-    let values = read_entries(alloc, name, found)?;
+    let values = read_entries(alloc, table, key, name)?;
     integers_in(alloc, name, values)
 }
 
@@ -48,20 +53,21 @@ fn bytes_in(
     Ok(numbers)
 }
 
-// The numbers of a list of a key that is named so: how many there have to be at least and at most, and the greatest
+// The numbers of a list of this key, which faults call `name`: how many there have to be at least and at most, and the greatest
 // that an entry may be.
 fn read_bytes(
     alloc: Global,
+    table: &Table,
+    key: &str,
     name: &str,
     fewest: usize,
     most: usize,
     greatest: u8,
-    found: Option<&Value>,
 ) -> Result<Vec<u8>, ConfigFault>
-    ensures walk { Says (λ v. v.items) (numbers_of name.now fewest most greatest (option_map (λ v. view v.now) found.entry)) result }
+    ensures walk { Says (λ v. v.items) (numbers_of name.now fewest most greatest (get_member key.now (table_view table.now))) result }
     ensures count { IfOk result (λ v. length v.items ≤ most) }
 {
-    let integers = read_integers(alloc, name, found)?;
+    let integers = read_integers(alloc, table, key, name)?;
     if integers.len() < fewest {
         return Err(out_of_range(alloc, name));
     }
@@ -151,49 +157,52 @@ fn as_logs(alloc: Global, numbers: &[u8]) -> Result<Vec<LogId>, Memory>
     Ok(numbers.iter().map(|n| LogId(*n)).collect(alloc)?)
 }
 
-/// The different nodes of a key that is named so: of these ids, and none that is taken.
+/// The different nodes of this key, which faults call `name`: of these ids, and none that is taken.
 #[tactic(auto, unfolding(crate::specs::Values::seats_of))]
 pub fn read_seats(
     alloc: Global,
+    table: &Table,
+    key: &str,
     name: &str,
     taken: &[u8],
     ids: &[u8],
-    found: Option<&Value>,
 ) -> Result<Seats, ConfigFault>
-    ensures { Says (λ s. s) (seats_of name.now taken.now ids.now (option_map (λ v. view v.now) found.entry)) result }
+    ensures { Says (λ s. s) (seats_of name.now taken.now ids.now (get_member key.now (table_view table.now))) result }
 {
-    let numbers = read_bytes(alloc, name, 1, 7, 31, found)?;
+    let numbers = read_bytes(alloc, table, key, name, 1, 7, 31)?;
     judge_once(alloc, name, taken, &numbers)?;
     judge_known(alloc, name, ids, &numbers)?;
     Ok(as_seats(alloc, &numbers)?)
 }
 
-/// The rings of a key that is named so, in increasing order and of these ids.
+/// The rings of this key, which faults call `name`, in increasing order and of these ids.
 #[tactic(auto, unfolding(crate::specs::Values::subscribed_of))]
 pub fn read_rings(
     alloc: Global,
+    table: &Table,
+    key: &str,
     name: &str,
     ids: &[u8],
-    found: Option<&Value>,
 ) -> Result<Items<RingId>, ConfigFault>
-    ensures { Says (λ s. s) (subscribed_of name.now ids.now (option_map (λ v. view v.now) found.entry)) result }
+    ensures { Says (λ s. s) (subscribed_of name.now ids.now (get_member key.now (table_view table.now))) result }
 {
-    let numbers = read_bytes(alloc, name, 1, 16, 15, found)?;
+    let numbers = read_bytes(alloc, table, key, name, 1, 16, 15)?;
     judge_rising(alloc, name, &numbers)?;
     judge_known(alloc, name, ids, &numbers)?;
     Ok(Items::from_vec(as_rings(alloc, &numbers)?))
 }
 
-/// The logs of a key that is named so, in increasing order.
+/// The logs of this key, which faults call `name`, in increasing order.
 #[tactic(auto, unfolding(crate::specs::Values::logs_of))]
 pub fn read_logs(
     alloc: Global,
+    table: &Table,
+    key: &str,
     name: &str,
-    found: Option<&Value>,
 ) -> Result<Items<LogId>, ConfigFault>
-    ensures { Says (λ s. s) (logs_of name.now (option_map (λ v. view v.now) found.entry)) result }
+    ensures { Says (λ s. s) (logs_of name.now (get_member key.now (table_view table.now))) result }
 {
-    let numbers = read_bytes(alloc, name, 0, 64, 63, found)?;
+    let numbers = read_bytes(alloc, table, key, name, 0, 64, 63)?;
     judge_rising(alloc, name, &numbers)?;
     Ok(Items::from_vec(as_logs(alloc, &numbers)?))
 }

@@ -1,13 +1,13 @@
 //! Lists of tables.
 
 ghost use Rattle.std.specs.Prelude.{◌≡◌, ◌≤◌, ◌<◌, IfOk, map, None};
-ghost use Rattle.std.specs.Option.{option_map};
+ghost use Rattle.toml.specs.Data.{get_member};
 ghost use Rattle.toml.specs.View.{view, table_view};
 ghost use Rattle.config_walk.specs.Values.{Says, tables_in as tables_in_lem, some_tables, tables_of};
 
 use crate::ConfigFault;
 use crate::faults::{missing, out_of_range};
-use crate::values::{entries_in, table_in};
+use crate::values::{entries_in, table_in, value_at};
 use std::alloc::Global;
 use toml::{Table, Value};
 
@@ -25,18 +25,19 @@ fn tables_in<'a>(
     Ok(tables)
 }
 
-/// The tables of a list of a key that is named so: how many there have to be at least and at most. Where none is
+/// The tables of a list of this key, which faults call `name`: how many there have to be at least and at most. Where none is
 /// asked for, the key may be missing.
 pub fn read_tables<'a>(
     alloc: Global,
+    table: &'a Table,
+    key: &str,
     name: &str,
     fewest: usize,
     most: usize,
-    found: Option<&'a Value>,
 ) -> Result<Vec<&'a Table>, ConfigFault>
-    ensures { Says (λ v. map (λ t. table_view t.now) v.items) (tables_of name.now fewest most (option_map (λ v. view v.now) found.entry)) result }
+    ensures { Says (λ v. map (λ t. table_view t.now) v.items) (tables_of name.now fewest most (get_member key.now (table_view table.now))) result }
 {
-    let Some(value) = found else {
+    let Some(value) = value_at(table, key) else {
         return none_found(alloc, name, fewest);
     };
     let values = entries_in(alloc, name, value)?;

@@ -28,25 +28,26 @@ pub fn integer_in(alloc: Global, name: &str, value: &Value) -> Result<i64, Confi
     Ok(integer)
 }
 
-/// The integer of a key that is named so.
-pub fn read_integer(alloc: Global, name: &str, found: Option<&Value>) -> Result<i64, ConfigFault>
-    ensures { Says (λ z. z) (integer_of name.now (option_map (λ v. view v.now) found.entry)) result }
+/// The integer of this key, which faults call `name`.
+pub fn read_integer(alloc: Global, table: &Table, key: &str, name: &str) -> Result<i64, ConfigFault>
+    ensures { Says (λ z. z) (integer_of name.now (get_member key.now (table_view table.now))) result }
 {
-    let Some(value) = found else {
+    let Some(value) = value_at(table, key) else {
         return Err(missing(alloc, name));
     };
     integer_in(alloc, name, value)
 }
 
-/// The text of a key that is named so.
+/// The text of this key, which faults call `name`.
 pub fn read_text<'a>(
     alloc: Global,
+    table: &'a Table,
+    key: &str,
     name: &str,
-    found: Option<&'a Value>,
 ) -> Result<&'a str, ConfigFault>
-    ensures { Says (λ s. s.now) (text_of name.now (option_map (λ v. view v.now) found.entry)) result }
+    ensures { Says (λ s. s.now) (text_of name.now (get_member key.now (table_view table.now))) result }
 {
-    let Some(value) = found else {
+    let Some(value) = value_at(table, key) else {
         return Err(missing(alloc, name));
     };
     let Some(text) = value.as_str() else {
@@ -69,15 +70,16 @@ pub fn entries_in<'a>(
     Ok(values.as_slice())
 }
 
-/// The entries of the list of a key that is named so.
+/// The entries of the list of this key, which faults call `name`.
 pub fn read_entries<'a>(
     alloc: Global,
+    table: &'a Table,
+    key: &str,
     name: &str,
-    found: Option<&'a Value>,
 ) -> Result<&'a [Value], ConfigFault>
-    ensures { Says (λ vs. map view vs.now) (entries_of name.now (option_map (λ v. view v.now) found.entry)) result }
+    ensures { Says (λ vs. map view vs.now) (entries_of name.now (get_member key.now (table_view table.now))) result }
 {
-    let Some(value) = found else {
+    let Some(value) = value_at(table, key) else {
         return Err(missing(alloc, name));
     };
     entries_in(alloc, name, value)

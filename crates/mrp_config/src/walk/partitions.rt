@@ -1,8 +1,8 @@
 //! The tables of partitions.
 
-ghost use Rattle.std.specs.Prelude.{◌≡◌, ◌++◌, ◌≤◌, ◌<◌, map, IfOk, IfErr, OnOk, IsTrue, codes, []};
-ghost use Rattle.std.specs.Option.{option_map};
-ghost use Rattle.toml.specs.View.{view, table_view};
+ghost use Rattle.std.specs.Prelude.{◌≡◌, ◌++◌, ◌≤◌, ◌<◌, map, IfOk, IfErr, OnOk, codes, []};
+ghost use Rattle.toml.specs.Data.{get_member};
+ghost use Rattle.toml.specs.View.{table_view};
 ghost use Rattle.mrp_types.specs.Seats.{numbers_of_nodes};
 ghost use Rattle.config_walk.specs.declared.fault.ConfigFault.TheVariants.{Memory};
 ghost use Rattle.config_walk.specs.Values.{Says, all_known};
@@ -12,18 +12,18 @@ use crate::lists::has_ring;
 use crate::{PartitionTable, RingIds};
 use config_walk::{
     ConfigFault, judge_names, read_hex, read_id, read_logs, read_number, read_quorum, read_rings,
-    read_seats, read_tables, unknown_id, value_at,
+    read_seats, read_tables, unknown_id,
 };
 use mrp_types::{PartitionId, RingId, Seats};
 use std::alloc::Global;
-use toml::{Table, Value};
+use toml::Table;
 
 #[tactic(auto, unfolding(crate::specs::Walk::home_of))]
-fn read_home(alloc: Global, rings: &RingIds, found: Option<&Value>) -> Result<RingId, ConfigFault>
-    ensures { Says (λ x. x) (home_of rings.now (option_map (λ v. view v.now) found.entry)) result }
+fn read_home(alloc: Global, rings: &RingIds, table: &Table) -> Result<RingId, ConfigFault>
+    ensures { Says (λ r. r) (home_of rings.now (get_member (codes "home") (table_view table.now))) result }
 {
     let name = "partition.home";
-    let ring = RingId(read_number(alloc, name, 0, 15, found)? as u8);
+    let ring = RingId(read_number(alloc, table, "home", name, 0, 15)? as u8);
     if !has_ring(rings.items(), ring) {
         return Err(unknown_id(alloc, name, ring.0));
     }
@@ -59,23 +59,20 @@ fn read_partition(
     ensures walk { Says (λ p. p) (partition_of nodes.now rings.now taken.now least (table_view table.now)) result }
     ensures bounds { IfOk result (λ p. (least ≤ p.id.0) × (p.id.0 < 16)) }
 {
-    let id = read_id(alloc, "partition.id", 15, least, value_at(table, "id"))?;
-    let replicas = read_seats(
+    let id = read_id(alloc, table, "id", "partition.id", 15, least)?;
+    let replicas = read_seats(alloc, table, "replicas", "partition.replicas", taken, nodes)?;
+    let own = read_rings(alloc, table, "rings", "partition.rings", rings)?;
+    let home = read_home(alloc, &own, table)?;
+    let from = read_hex(alloc, table, "from", "partition.from")?;
+    let to = read_hex(alloc, table, "to", "partition.to")?;
+    let logs = read_logs(alloc, table, "logs", "partition.logs")?;
+    let trim_quorum = read_quorum(alloc, table, "trim_quorum", "partition.trim_quorum")?;
+    let recovery_quorum = read_quorum(
         alloc,
-        "partition.replicas",
-        taken,
-        nodes,
-        value_at(table, "replicas"),
+        table,
+        "recovery_quorum",
+        "partition.recovery_quorum",
     )?;
-    let own = read_rings(alloc, "partition.rings", rings, value_at(table, "rings"))?;
-    let home = read_home(alloc, &own, value_at(table, "home"))?;
-    let from = read_hex(alloc, "partition.from", value_at(table, "from"))?;
-    let to = read_hex(alloc, "partition.to", value_at(table, "to"))?;
-    let logs = read_logs(alloc, "partition.logs", value_at(table, "logs"))?;
-    let trim = value_at(table, "trim_quorum");
-    let trim_quorum = read_quorum(alloc, "partition.trim_quorum", trim)?;
-    let recovery = value_at(table, "recovery_quorum");
-    let recovery_quorum = read_quorum(alloc, "partition.recovery_quorum", recovery)?;
     judge_partition_names(alloc, table)?;
     Ok(PartitionTable {
         id: PartitionId(id),
@@ -129,6 +126,6 @@ pub fn read_partitions(
 ) -> Result<Vec<PartitionTable>, ConfigFault>
     ensures { Says (λ v. v.items) (top_partitions nodes.now rings.now (table_view table.now)) result }
 {
-    let tables = read_tables(alloc, "partition", 1, 16, value_at(table, "partition"))?;
+    let tables = read_tables(alloc, table, "partition", "partition", 1, 16)?;
     each_partition(alloc, nodes, rings, &tables)
 }

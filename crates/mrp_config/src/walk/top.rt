@@ -1,46 +1,31 @@
 //! The whole of a deployment.
 
-ghost use Rattle.std.specs.Prelude.{◌≡◌, ◌≤◌, [], IfOk};
-ghost use Rattle.toml.specs.Data.{get_member};
+ghost use Rattle.std.specs.Prelude.{◌≡◌, [], IfOk};
 ghost use Rattle.toml.specs.View.{table_view};
-ghost use Rattle.config_walk.specs.Values.{Says, number_of, all_known};
+ghost use Rattle.config_walk.specs.Values.{Says, all_known};
 ghost use Rattle.mrp_config.specs.Walk.{top_names, top_numbers, node_ids as node_ids_lem, ring_ids as ring_ids_lem};
 
 use crate::{NodeTable, Numbers, RingTable};
-use config_walk::{ConfigFault, judge_names, read_number, value_at};
+use config_walk::{ConfigFault, judge_names, read_number};
 use mrp_types::Memory;
 use std::alloc::Global;
 use toml::Table;
-
-// A number of the top table, in this range.
-fn top_number(
-    alloc: Global,
-    table: &Table,
-    key: &str,
-    least: u64,
-    most: u64,
-) -> Result<u64, ConfigFault>
-    ensures walk { Says (λ n. n) (number_of key.now least most (get_member key.now (table_view table.now))) result }
-    ensures bounds { IfOk result (λ n. (least ≤ n) × (n ≤ most)) }
-{
-    read_number(alloc, key, least, most, value_at(table, key))
-}
 
 /// The ten numbers of the top table.
 #[tactic(auto, unfolding(crate::specs::Walk::top_numbers))]
 pub fn read_numbers(alloc: Global, table: &Table) -> Result<Numbers, ConfigFault>
     ensures { Says (λ n. n) (top_numbers (table_view table.now)) result }
 {
-    let m = top_number(alloc, table, "m", 1, 1_024)? as u16;
-    let lambda = top_number(alloc, table, "lambda", 0, 256)? as u16;
-    let delta = top_number(alloc, table, "delta", 1, 256)? as u16;
-    let resend = top_number(alloc, table, "resend", 1, 1_000)? as u16;
-    let suspect = top_number(alloc, table, "suspect", 1, 10_000)? as u16;
-    let attempt = top_number(alloc, table, "attempt", 1, 10_000)? as u16;
-    let checkpoint = top_number(alloc, table, "checkpoint", 1, 1_000_000)? as u32;
-    let trim = top_number(alloc, table, "trim", 1, 1_000_000)? as u32;
-    let window = top_number(alloc, table, "window", 1, 64)? as u8;
-    let journal = top_number(alloc, table, "journal", 1_048_576, 4_294_967_295)?;
+    let m = read_number(alloc, table, "m", "m", 1, 1_024)? as u16;
+    let lambda = read_number(alloc, table, "lambda", "lambda", 0, 256)? as u16;
+    let delta = read_number(alloc, table, "delta", "delta", 1, 256)? as u16;
+    let resend = read_number(alloc, table, "resend", "resend", 1, 1_000)? as u16;
+    let suspect = read_number(alloc, table, "suspect", "suspect", 1, 10_000)? as u16;
+    let attempt = read_number(alloc, table, "attempt", "attempt", 1, 10_000)? as u16;
+    let checkpoint = read_number(alloc, table, "checkpoint", "checkpoint", 1, 1_000_000)? as u32;
+    let trim = read_number(alloc, table, "trim", "trim", 1, 1_000_000)? as u32;
+    let window = read_number(alloc, table, "window", "window", 1, 64)? as u8;
+    let journal = read_number(alloc, table, "journal", "journal", 1_048_576, 4_294_967_295)?;
     Ok(Numbers {
         m,
         lambda,
