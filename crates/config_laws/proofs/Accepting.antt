@@ -11,7 +11,8 @@ use Rattle.config_walk.specs.Values.{address_of, id_of, seats_of}
 use Rattle.mrp_config.specs.Walk.{node_of, nodes_of, client_of, clients_of, ring_of, size_of, rings_of, node_ids, ring_ids}
 use Rattle.config_laws.specs.Tables.{number, numbers, node_table, client_table, ring_table}
 use Rattle.mrp_config.specs.Valid.{IncreasesFrom, AreAtMost, IsBetween, AreSeats, client_ids}
-use Rattle.config_laws.proofs.Spelled.{step, apart_from_none, number_back, id_back, address_back, seats_back}
+use Rattle.mrp_config.proofs.Steps.{step}
+use Rattle.config_laws.proofs.Spelled.{apart_from_none, number_back, id_back, address_back, seats_back}
 
 -- ---- nodes and clients
 

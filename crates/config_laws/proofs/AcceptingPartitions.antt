@@ -17,7 +17,8 @@ use Rattle.config_walk.specs.Values.{unless, number_of, numbers_of, each_rises, 
 use Rattle.mrp_config.specs.Walk.{home_of, partition_names, partition_of, partitions_of, has_quorums, quorums_meet, ranges_follow, first_taken, logs_once, judged}
 use Rattle.config_laws.specs.Tables.{number, numbers, partition_table}
 use Rattle.mrp_config.specs.Valid.{IncreasesFrom, AreAtMost, AreAmong, AreApart, AreAllApart, IsBetween, AreQuorums, IsPartition, ArePartitions, AreEndToEnd, numbers_of_rings, numbers_of_logs, partition_ids, replicas_of, logs_of as lists_of_logs}
-use Rattle.config_laws.proofs.Spelled.{step, passes, apart_from_none, number_back, id_back, hex_back, min_of, numbers_back, rises_back, known_back, seats_back, all_join}
+use Rattle.mrp_config.proofs.Steps.{step}
+use Rattle.config_laws.proofs.Spelled.{passes, apart_from_none, number_back, id_back, hex_back, min_of, numbers_back, rises_back, known_back, seats_back, all_join}
 use Rattle.mrp_config.proofs.Members.{has_is_among}
 use Rattle.mrp_config.proofs.AcceptedPartitions.{as_many_rings, as_many_logs, not_empty, is_among_logs, joined_logs}
 

@@ -40,15 +40,19 @@ unfolding past_ip past_number read_number
 no_port = refl
 
 m_is_missing : number_of (codes "m") 1 1024 None ≡ Err (Missing (codes "m"))
+unfolding number_of
 m_is_missing = refl
 
 m_of_zero : number_of (codes "m") 1 1024 (Some (integer (pos 0))) ≡ Err (OutOfRange (codes "m"))
+unfolding number_of
 m_of_zero = refl
 
 m_below_zero : number_of (codes "m") 1 1024 (Some (integer (negsuc 0))) ≡ Err (OutOfRange (codes "m"))
+unfolding number_of
 m_below_zero = refl
 
 m_as_text : number_of (codes "m") 1 1024 (Some (string (codes "1"))) ≡ Err (WrongKind (codes "m"))
+unfolding number_of
 m_as_text = refl
 
 kind_before_range : seats_of (codes "ring.acceptors") [] (0 ∷ []) (Some (array (item (integer (pos 99)) (item (boolean true) no_items)))) ≡ Err (WrongKind (codes "ring.acceptors"))
@@ -79,9 +83,11 @@ colour_is_unknown : all_known (codes "ring.") (codes "id" ∷ []) (member (codes
 colour_is_unknown = refl
 
 clients_may_lack : tables_of (codes "client") 0 256 None ≡ Ok []
+unfolding tables_of
 clients_may_lack = refl
 
 nodes_may_not : tables_of (codes "node") 1 32 (Some (array no_items)) ≡ Err (OutOfRange (codes "node"))
+unfolding tables_of
 nodes_may_not = refl
 
 quorums_of_three : has_quorums 3 2 2 ≡ true

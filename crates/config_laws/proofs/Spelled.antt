@@ -18,12 +18,10 @@ use Rattle.config_walk.specs.Values.{◌>>=◌, chain, unless, integer_in, in_ra
 use Rattle.config_laws.specs.Tables.{number, numbers, tables_with}
 use Rattle.mrp_config.specs.Valid.{IncreasesFrom, AreAtMost, AreAmong, AreDifferent, AreApart, IsBetween, AreSeats, IsKey}
 use Rattle.config_walk.proofs.Among.{in_none, none_of, turned}
+use Rattle.mrp_config.proofs.Steps.{step}
 use Rattle.config_walk.proofs.Views.{entries_of_items}
 
 -- ---- steps
-
-pub step : {A B : Type 0} (r : Result A ConfigFault) (f : A → Result B ConfigFault) (x : A) (z : Result B ConfigFault) → r ≡ Ok x → f x ≡ z → (r >>= f) ≡ z
-step r f x z found later = ap (λ (s : Result _ ConfigFault). s >>= f) found ∙ later
 
 pub passes : (t : Bool) (fault : ConfigFault) → t ≡ true → unless t fault ≡ Ok tt
 passes t fault h = rw h refl
@@ -34,14 +32,17 @@ in_range_back : (name : List ℕ) (least most n : ℕ) → IsBetween least most 
 in_range_back name least most n h = rw (not_above least n h.0, not_above n most h.1) refl
 
 pub number_back : (name : List ℕ) (least most n : ℕ) → IsBetween least most n → number_of name least most (Some (number n)) ≡ Ok n
+unfolding number_of
 number_back name least most n h = in_range_back name least most n h
 
 pub id_back : (name : List ℕ) (most least n : ℕ) → least ≤ n → n ≤ most → id_of name most least (Some (number n)) ≡ Ok n
+unfolding id_of
 id_back name most least n low high =
     step (number_of name 0 most (Some (number n))) _ n _ (number_back name 0 most n (omega arith, high))
     (step (unless (nat_le least n) (Repeated name n)) _ tt _ (passes (nat_le least n) (Repeated name n) (le-leb least n low)) refl)
 
 pub address_back : (name text : List ℕ) → IsAddress text → address_of name (Some (string text)) ≡ Ok text
+unfolding address_of
 address_back name text h = step (unless (is_address text) (OutOfRange name)) _ tt _ (passes (is_address text) (OutOfRange name) (is_an_address text h)) refl
 
 decoded_back : (name bytes : List ℕ) → IsKey bytes → decoded name (encode_lower bytes) (Ok bytes) ≡ Ok bytes
@@ -124,6 +125,7 @@ tables_in_back name spell [] = refl
 tables_in_back name spell (t ∷ ts) = step (tables_in name (map (λ t. table (spell t)) ts)) _ (map spell ts) _ (tables_in_back name spell ts) refl
 
 pub tables_back : {T : Type 0} (name : List ℕ) (fewest most : ℕ) (spell : T → Members) (ts : List T) → IsBetween fewest most (length ts) → tables_of name fewest most (Some (tables_with spell ts)) ≡ Ok (map spell ts)
+unfolding tables_of
 tables_back name fewest most spell ts few =
     let some : nat_le fewest (length (map spell ts)) ≡ true = rw (length-map ts spell) (le-leb fewest (length ts) few.0) in
     let many : nat_le (length (map spell ts)) most ≡ true = rw (length-map ts spell) (le-leb (length ts) most few.1) in

@@ -76,11 +76,13 @@ in_range_saw name least most (pos k) n h =
     subst (IsBetween least most) same (at_most least k low.0, at_most k most high.0)
 
 pub number_saw : (name : List ℕ) (least most : ℕ) (found : Option Data) (n : ℕ) → number_of name least most found ≡ Ok n → IsBetween least most n
+unfolding number_of
 number_saw name least most found n h =
     let b = bound (integer_of name found) (λ z. in_range name least most z) n h in
     in_range_saw name least most b.0 n b.2
 
 pub id_saw : (name : List ℕ) (most least : ℕ) (found : Option Data) (n : ℕ) → id_of name most least found ≡ Ok n → (least ≤ n) × (n ≤ most)
+unfolding id_of
 id_saw name most least found n h =
     let a = bound (number_of name 0 most found) _ n h in
     let b = bound (unless (nat_le least a.0) _) _ n a.2 in
@@ -89,6 +91,7 @@ id_saw name most least found n h =
     subst (λ k. (least ≤ k) × (k ≤ most)) same (leb-true least a.0 (tested _ _ b.0 b.1), high.1)
 
 pub address_saw : (name : List ℕ) (found : Option Data) (text : List ℕ) → address_of name found ≡ Ok text → IsAddress text
+unfolding address_of
 address_saw name found text h =
     let a = bound (text_of name found) _ text h in
     let b = bound (unless (is_address a.0) _) _ text a.2 in

@@ -54,7 +54,7 @@ abbrev pub in_range : List ℕ → ℕ → ℕ → ℤ → Result ℕ ConfigFaul
 in_range name least most (negsuc n) = Err (OutOfRange name)
 in_range name least most (pos n) = if nat_lt n least then Err (OutOfRange name) else (if nat_lt most n then Err (OutOfRange name) else Ok n)
 
-abbrev pub number_of : List ℕ → ℕ → ℕ → Option Data → Result ℕ ConfigFault
+unfoldable pub number_of : List ℕ → ℕ → ℕ → Option Data → Result ℕ ConfigFault
 number_of name least most found = do
   z ← integer_of name found
   in_range name least most z
@@ -74,7 +74,7 @@ text_of name None = Err (Missing name)
 text_of name (Some (string s)) = Ok s
 text_of name (Some other) = Err (WrongKind name)
 
-abbrev pub address_of : List ℕ → Option Data → Result (List ℕ) ConfigFault
+unfoldable pub address_of : List ℕ → Option Data → Result (List ℕ) ConfigFault
 address_of name found = do
   text ← text_of name found
   good ← unless (is_address text) (OutOfRange name)
@@ -141,7 +141,7 @@ each_known name ids [] = Ok tt
 each_known name ids (n ∷ ns) = if is_among n ids then each_known name ids ns else Err (UnknownId name n)
 
 -- an id that is greater than those before it
-abbrev pub id_of : List ℕ → ℕ → ℕ → Option Data → Result ℕ ConfigFault
+unfoldable pub id_of : List ℕ → ℕ → ℕ → Option Data → Result ℕ ConfigFault
 id_of name most least found = do
   id ← number_of name 0 most found
   rising ← unless (nat_le least id) (Repeated name id)
@@ -206,7 +206,7 @@ some_tables name fewest most ts = do
   Ok ts
 
 -- a list of tables; where none is asked for, the list may be missing
-abbrev pub tables_of : List ℕ → ℕ → ℕ → Option Data → Result (List Members) ConfigFault
+unfoldable pub tables_of : List ℕ → ℕ → ℕ → Option Data → Result (List Members) ConfigFault
 tables_of name fewest most None = if fewest == 0 then Ok [] else Err (Missing name)
 tables_of name fewest most (Some value) = do
   values ← entries_in name value

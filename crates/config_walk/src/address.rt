@@ -89,6 +89,7 @@ fn is_address(text: &[u8]) -> bool
 }
 
 /// The address of this key, which faults call `name`, as text.
+#[tactic(auto, unfolding(crate::specs::Values::address_of))]
 pub fn read_address(
     alloc: Global,
     table: &Table,

@@ -35,6 +35,7 @@ pub fn in_range(
 }
 
 /// The number of this key, which faults call `name`, in this range.
+#[tactic(auto, unfolding(crate::specs::Values::number_of))]
 pub fn read_number(
     alloc: Global,
     table: &Table,
@@ -51,6 +52,7 @@ pub fn read_number(
 }
 
 /// An id of this key, which faults call `name`, not below `least`, which is past the ids before it.
+#[tactic(auto, unfolding(crate::specs::Values::id_of))]
 pub fn read_id(
     alloc: Global,
     table: &Table,

@@ -27,6 +27,7 @@ fn tables_in<'a>(
 
 /// The tables of a list of this key, which faults call `name`: how many there have to be at least and at most. Where none is
 /// asked for, the key may be missing.
+#[tactic(auto, unfolding(crate::specs::Values::tables_of))]
 pub fn read_tables<'a>(
     alloc: Global,
     table: &'a Table,
@@ -51,6 +52,7 @@ pub fn read_tables<'a>(
     Ok(tables)
 }
 
+#[tactic(auto, unfolding(crate::specs::Values::tables_of))]
 fn none_found<'a>(alloc: Global, name: &str, fewest: usize) -> Result<Vec<&'a Table>, ConfigFault>
     ensures { Says (λ v. map (λ t. table_view t.now) v.items) (tables_of name.now fewest 0 None) result }
 {

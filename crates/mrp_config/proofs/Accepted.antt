@@ -20,6 +20,7 @@ is_zero : (n : ℕ) → (n == 0) ≡ true → n ≤ 0
 is_zero n h = grind arith
 
 pub tables_saw : (name : List ℕ) (fewest most : ℕ) (found : Option Data) (ts : List Members) → tables_of name fewest most found ≡ Ok ts → IsBetween fewest most (length ts)
+unfolding tables_of
 tables_saw name fewest most None ts h =
     let t = then_was (fewest == 0) (Missing name) (Ok []) ts h in
     let same : [] ≡ ts = ok_is [] ts t.1 in

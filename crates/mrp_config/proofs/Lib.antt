@@ -7,3 +7,4 @@ pub mod Keys
 pub mod Masks
 pub mod Members
 pub mod Rounds
+pub mod Steps

@@ -6,7 +6,8 @@ use Rattle.config_walk.specs.Values.{number_of, tables_of}
 use Rattle.mrp_config.specs.Walk.{top_numbers, top_nodes, top_clients, top_rings, top_partitions, nodes_of, clients_of, rings_of, partitions_of, node_ids, ring_ids, judged, config_of}
 use Rattle.config_laws.specs.Tables.{number, tables_with, node_table, client_table, ring_table, partition_table, described}
 use Rattle.mrp_config.specs.Valid.{IsValid, replicas_of}
-use Rattle.config_laws.proofs.Spelled.{step, number_back, tables_back}
+use Rattle.mrp_config.proofs.Steps.{step}
+use Rattle.config_laws.proofs.Spelled.{number_back, tables_back}
 use Rattle.config_laws.proofs.Accepting.{nodes_back, clients_back, rings_back}
 use Rattle.config_laws.proofs.AcceptingPartitions.{partitions_back, none_apart, judged_back}
 use Rattle.config_laws.proofs.laws.what_is_valid_is_accepted.Goals as goal
