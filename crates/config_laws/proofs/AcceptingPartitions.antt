@@ -13,8 +13,8 @@ use Rattle.config_walk.specs.declared.fault.ConfigFault.TheVariants.{UnknownId}
 use Rattle.mrp_config.specs.declared.tables.PartitionTable.{PartitionTable}
 use Rattle.mrp_config.specs.Config.{has_ring}
 use Rattle.mrp_types.specs.Seats.{is_among, numbers_of_nodes}
-use Rattle.config_walk.specs.Values.{unless, number_of, numbers_of, each_rises, each_known, id_of, all_known, subscribed_of, logs_of, as_rings, as_logs, seats_of, hex_of, quorum_of}
-use Rattle.mrp_config.specs.Walk.{home_of, partition_names, partition_of, partitions_of, has_quorums, quorums_meet, ranges_follow, first_taken, logs_once, judged}
+use Rattle.config_walk.specs.Values.{unless, number_of, numbers_of, each_rises, each_known, id_of, subscribed_of, logs_of, as_rings, as_logs, seats_of, hex_of, quorum_of}
+use Rattle.mrp_config.specs.Walk.{home_of, partition_of, partitions_of, has_quorums, quorums_meet, ranges_follow, first_taken, logs_once, judged}
 use Rattle.config_laws.specs.Tables.{number, numbers, partition_table}
 use Rattle.mrp_config.specs.Valid.{IncreasesFrom, AreAtMost, AreAmong, AreApart, AreAllApart, IsBetween, AreQuorums, IsPartition, ArePartitions, AreEndToEnd, numbers_of_rings, numbers_of_logs, partition_ids, replicas_of, logs_of as lists_of_logs}
 use Rattle.mrp_config.proofs.Steps.{step}
@@ -72,10 +72,6 @@ quorum_back : (name : List ℕ) (n : ℕ) → n ≤ 255 → quorum_of name (Some
 unfolding quorum_of
 quorum_back name n low = rw (min_of n 255 low) refl
 
-names_known : (p : PartitionTable) → all_known (codes "partition.") partition_names (partition_table p) ≡ Ok tt
-unfolding partition_table
-names_known p = refl
-
 partition_back : (nodes rings taken : List ℕ) (start : ℕ) (p : PartitionTable) → start ≤ p.id.0 → p.id.0 ≤ 15 → AreApart taken (numbers_of_nodes p.replicas) → IsPartition nodes rings p →
     AreQuorums (length p.replicas) p.trim_quorum p.recovery_quorum → partition_of nodes rings taken start (partition_table p) ≡ Ok p
 unfolding partition_of partition_table
@@ -89,8 +85,7 @@ partition_back nodes rings taken start p low high free good meet =
     (step (hex_of (codes "partition.to") (Some (string (encode_lower p.to)))) _ p.to _ (hex_back (codes "partition.to") p.to good.to)
     (step (logs_of (codes "partition.logs") (Some (numbers (numbers_of_logs p.logs)))) _ p.logs _ (logs_of_back (codes "partition.logs") p.logs good.few_logs good.low_logs good.logs)
     (step (quorum_of (codes "partition.trim_quorum") (Some (number p.trim_quorum))) _ p.trim_quorum _ (quorum_back (codes "partition.trim_quorum") p.trim_quorum (omega (arith, meet.trims.1, replicas)))
-    (step (quorum_of (codes "partition.recovery_quorum") (Some (number p.recovery_quorum))) _ p.recovery_quorum _ (quorum_back (codes "partition.recovery_quorum") p.recovery_quorum (omega (arith, meet.recovers.1, replicas)))
-    (step (all_known (codes "partition.") partition_names (partition_table p)) _ tt _ (names_known p) refl)))))))))
+    (step (quorum_of (codes "partition.recovery_quorum") (Some (number p.recovery_quorum))) _ p.recovery_quorum _ (quorum_back (codes "partition.recovery_quorum") p.recovery_quorum (omega (arith, meet.recovers.1, replicas))) refl))))))))
 
 -- ---- all of them
 

@@ -7,6 +7,7 @@ use Rattle.mrp_config.specs.declared.routing.NoGroup.{NoGroup}
 use Rattle.mrp_config.specs.declared.tables.PartitionTable.{PartitionTable}
 use Rattle.mrp_config.specs.Config.{has_ring}
 use Rattle.mrp_config.specs.Routing.{is_concerned, concerned_of, all_have, common, route_of}
+use Rattle.mrp_config.proofs.Members.{has_is_among}
 use Rattle.mrp_config.specs.Valid.{IncreasesFrom, IsPartition, IsRouteOf, numbers_of_rings}
 
 -- the ring is the first, or one of the others
