@@ -14,7 +14,7 @@ use Rattle.config_walk.specs.declared.fault.ConfigFault.TheVariants.{OutOfRange,
 use Rattle.config_walk.proofs.Addresses.{is_an_address}
 use Rattle.config_walk.specs.Address.{is_address, IsAddress}
 use Rattle.mrp_types.specs.Seats.{is_among, numbers_of_nodes}
-use Rattle.config_walk.specs.Values.{◌>>=◌, chain, unless, integer_in, in_range, number_of, address_of, decoded, hex_of, integers_of, each_in, numbers_of, each_once, each_rises, each_known, id_of, as_nodes, seats_of, tables_in, tables_of, some_tables}
+use Rattle.config_walk.specs.Values.{chain, unless, integer_in, in_range, number_of, address_of, decoded, hex_of, integers_of, each_in, numbers_of, each_once, each_rises, each_known, id_of, as_nodes, seats_of, tables_in, tables_of, some_tables}
 use Rattle.config_laws.specs.Tables.{number, numbers, tables_with}
 use Rattle.mrp_config.specs.Valid.{IncreasesFrom, AreAtMost, AreAmong, AreDifferent, AreApart, IsBetween, AreSeats, IsKey}
 use Rattle.config_walk.proofs.Among.{in_none, none_of, turned}
