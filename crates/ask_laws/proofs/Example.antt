@@ -1,7 +1,7 @@
 -- A run that may be, in which a command is asked and learned.
 use Rattle.std.proofs.Common.{◌≡◌, [], ◌∷◌, inl, refl, arith}
 use Rattle.std.specs.Fmt.{digits}
-use Rattle.mrp_config.specs.Address.{IsAddress}
+use Rattle.config_walk.specs.Address.{IsAddress}
 use Rattle.mrp_config.specs.Routing.{is_concerned}
 use Rattle.mrp_config.specs.Valid.{IsValid, AreSeats}
 use Rattle.command_codec.specs.Fields.{u16_bytes, u64_bytes}

@@ -11,7 +11,7 @@ use Rattle.mrp_types.specs.declared.value.Entry.{Entry}
 use Rattle.mrp_types.specs.declared.value.Value.{Value}
 use Rattle.mrp_types.specs.declared.voted.Voted.{Voted}
 use Rattle.mrp_types.specs.Entries.{IsEntry}
-use Rattle.mrp_config.specs.Config.{Config}
+use Rattle.mrp_config.specs.Config.{Config, partition_of}
 use Rattle.mrp_config.specs.declared.tables.RingTable.{RingTable}
 use Rattle.mrp_config.specs.declared.tables.PartitionTable.{PartitionTable}
 use Rattle.command_codec.specs.Grammar.{command_of}
@@ -39,7 +39,7 @@ use Rattle.protocol.specs.Node.{StepSoFar, View, RingPart, Service, Stage, Recov
 use Rattle.protocol.specs.Recovery.{answered_by, takes_part, takes_gone, tells_checkpoint, tells_part, safe_of}
 use Rattle.protocol.specs.Bases.{base_by, rebased, rebases}
 use Rattle.protocol.specs.Learning.{applies_effects}
-use Rattle.protocol.specs.Opening.{partition_of, part_of_ring, parts_of, view_of, begins_first, opened}
+use Rattle.protocol.specs.Opening.{part_of_ring, parts_of, view_of, begins_first, opened}
 use Rattle.protocol.specs.Step.{recovers_if_trimmed, at_acceptor, at_member, is_for, handles_submit, handles_trim_at, handles_body, handles_from, step}
 use Rattle.protocol.specs.Tick.{saves, is_due_to_save, saves_stage, saves_first, is_due_to_compact, compacts, rules_at, rules_for, ticks_ring, ticks_rings, recovery_ticks_at, asks_on_beat, beats_with, beats, or_compacts, ticks}
 use Rattle.ask_laws.specs.Carried.{ValueCarries, VotesCarry, VotedCarry, RangesCarry, PartCarries, RingPartCarries, StateCarries, ViewCarries, ChangeCarries, WorkCarries, SentCarries, BodyCarries, PartyCarries, EventCarries, EffectsCarry, ActCarries, StepCarries}

@@ -4,7 +4,7 @@ use Rattle.mrp_types.specs.declared.id.NodeId.{NodeId}
 use Rattle.mrp_types.specs.declared.id.ClientId.{ClientId}
 use Rattle.mrp_types.specs.declared.id.Party.{Party}
 use Rattle.mrp_types.specs.declared.id.Party.TheVariants.{Node, Client}
-use Rattle.mrp_config.specs.Config.{Config, node_at, client_at}
+use Rattle.mrp_config.specs.Config.{Config, node_at, client_at, partition_of}
 use Rattle.mrp_config.specs.declared.tables.NodeTable.{NodeTable}
 use Rattle.mrp_config.specs.declared.tables.ClientTable.{ClientTable}
 use Rattle.mrp_config.specs.declared.tables.PartitionTable.{PartitionTable}
@@ -18,7 +18,6 @@ use Rattle.checkpoint.specs.Checkpoints.{Checkpoint, Checkpoints}
 use Rattle.plain_model.specs.Replicas.{Replica}
 use Rattle.plain_model.specs.StateBytes.{whole_state}
 use Rattle.plain_model.specs.Tuples.{round_sizes, is_tuple_of}
-use Rattle.protocol.specs.Opening.{partition_of}
 use Rattle.protocol.specs.Node.{Event, Takes}
 use Rattle.protocol.specs.Client.{MayBeAsked}
 use Rattle.bare_world.specs.Worlds.{Possible, Host, Up, Down, World, Happening, Steps, Breaks, Crashes, Opens, Fails, Asks, ClientTicks, ClientTakes, Shows, Lists, chosen, happens}

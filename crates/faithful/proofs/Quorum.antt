@@ -6,11 +6,9 @@ use Rattle.std.proofs.lemmas.Bool.Decides.{nat_tests}
 use Rattle.std.proofs.lemmas.List.Sums.{sum_by-cons}
 use Rattle.mrp_types.specs.declared.id.NodeId.{NodeId}
 use Rattle.mrp_types.specs.declared.id.RingId.{RingId}
-use Rattle.mrp_config.specs.Config.{has_node, has_ring}
+use Rattle.mrp_config.specs.Config.{has_node, has_ring, partition_of, subscribers_of}
 use Rattle.mrp_config.specs.declared.tables.PartitionTable.{PartitionTable}
 use Rattle.quorums.specs.Groups.{Has}
-use Rattle.protocol.specs.Opening.{partition_of}
-use Rattle.protocol.specs.Rings.{subscribers_of}
 use Rattle.protocol.specs.Trimming.{has_answered}
 use Rattle.faithful.specs.Scanners.{entry_of, Reaches, some_reaches}
 use Rattle.faithful.specs.Answers.{AreDifferent, Both}

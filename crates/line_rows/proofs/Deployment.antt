@@ -1,7 +1,7 @@
 -- The deployment is valid: each condition by computation.
 use Rattle.std.proofs.Common.{refl, arith}
 use Rattle.std.specs.Fmt.{digits}
-use Rattle.mrp_config.specs.Address.{IsAddress}
+use Rattle.config_walk.specs.Address.{IsAddress}
 use Rattle.mrp_config.specs.Valid.{IsValid}
 use Rattle.line_rows.specs.Row.{address, config}
 

@@ -16,7 +16,7 @@ use Rattle.mrp_types.specs.declared.value.Value.{Value}
 use Rattle.mrp_types.specs.declared.value.Value.TheVariants.{Skip, Batch}
 use Rattle.mrp_types.specs.Book.{book_of}
 use Rattle.mrp_types.specs.Values.{is_skip}
-use Rattle.mrp_config.specs.Config.{Config, node_at, ring_at, client_at, has_node, has_ring}
+use Rattle.mrp_config.specs.Config.{Config, node_at, ring_at, client_at, has_node, has_ring, partition_of, subscribers_of}
 use Rattle.mrp_config.specs.declared.tables.PartitionTable.{PartitionTable}
 use Rattle.mrp_config.specs.Valid.{IsValid, IsPartition, IncreasesFrom, numbers_of_rings}
 use Rattle.mrp_config.specs.Walk.{node_ids, ring_ids}
@@ -29,7 +29,8 @@ use Rattle.tuple_laws.proofs.NextPlaces.{at-next, next-at}
 use Rattle.transcript.specs.declared.line.ShownState.{ShownState}
 use Rattle.transcript.specs.declared.line.Line.{Line}
 use Rattle.transcript.specs.declared.line.Line.TheVariants.{Learn, Deliver, Reply, Answer, Busy, Begin, Chose, Restore, Saved, Trim, Refuse, BallotLimit, InstanceLimit, AttemptLimit, Down, Up, State, Frame}
-use Rattle.line_rules.specs.Scanners.{Has, Restored, life, up_epoch, attempting, unchosen, chosen, before_begin, told, begun, entry_of, Reaches, some_reaches, paired, position, book, learned, partition_of, subscribers_of}
+use Rattle.line_rules.specs.Scanners.{Restored, life, up_epoch, attempting, unchosen, chosen, before_begin, told, begun, entry_of, Reaches, some_reaches, paired, position, book, learned}
+use Rattle.quorums.specs.Groups.{Has}
 use Rattle.line_rules.specs.Owed.{owed}
 use Rattle.line_rules.specs.Rules.{HasNode, HasRing, HasClient, AllKnown, BySkips, Fits, IsLater, Learns, F1, F2, HasParty, NamesFit, IsInTurn, F3, F4, F5, IsReached, Chooses, Restores, F6, HaveTold, AllHaveTold, F7, Begins, F8, F9}
 use Rattle.line_rules.specs.Tests.{is_some_that, all_pass, is_empty, has_node_of, has_ring_of, has_client_of, is_ready, each_passes, each_between, each_below, is_by_skips, is_reached, is_fit, reaches, is_later, is_wide, agrees, learns, keeps_f1, is_batch, delivers, stands, keeps_f2, is_first, has_party, do_names_fit, is_in_turn, keeps_f3, shows, keeps_f4, keeps_f5, is_trim_reached, chooses, restores, keeps_f6, have_told, all_have_told, keeps_f7, begins, is_past, keeps_f8, refuses, keeps_f9}

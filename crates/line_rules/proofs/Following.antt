@@ -13,7 +13,7 @@ use Rattle.mrp_types.specs.Book.{book_of}
 use Rattle.mrp_types.specs.Places.{place_lt}
 use Rattle.mrp_types.proofs.PlaceOrder.{in_one_order}
 use Rattle.mrp_types.proofs.TupleMoves.{has_past}
-use Rattle.mrp_config.specs.Config.{Config, has_ring}
+use Rattle.mrp_config.specs.Config.{Config, has_ring, partition_of}
 use Rattle.mrp_config.specs.declared.tables.PartitionTable.{PartitionTable}
 use Rattle.mrp_config.specs.Valid.{IsValid}
 use Rattle.plain_model.specs.Tuples.{round_sizes, place_of, next_place, moved_past, past, tuple_at, has_rings, is_valid_tuple, is_at_or_after, IsBelow, IsNotBelow}
@@ -23,7 +23,7 @@ use Rattle.plain_model.proofs.TupleChain.{is_le, later_rings}
 use Rattle.transcript.specs.declared.line.Line.{Line}
 use Rattle.transcript.specs.declared.line.Line.TheVariants.{Deliver, Restore, Begin, Chose, Saved, Down, Up}
 use Rattle.line_rules.specs.Names as rule
-use Rattle.line_rules.specs.Scanners.{moves, position, learned, partition_of}
+use Rattle.line_rules.specs.Scanners.{moves, position, learned}
 use Rattle.line_rules.specs.Rules.{Delivers, Answers, IsFaithfulLine, AreFaithful}
 use Rattle.line_rules.specs.Follows.{delivered, AreInOrder, IsOrdered}
 use Rattle.line_rules.proofs.Words.{no_true, nothing, some_same, node_same}

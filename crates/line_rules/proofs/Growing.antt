@@ -5,7 +5,8 @@ use Rattle.std.proofs.lemmas.Bool.Decides.{nat_tests}
 use Rattle.mrp_types.specs.declared.id.RingId.{RingId}
 use Rattle.mrp_types.specs.declared.value.Value.{Value}
 use Rattle.transcript.specs.declared.line.Line.{Line}
-use Rattle.line_rules.specs.Scanners.{Has, past, touches, or_else, last_of, first_of, all_of, moves, position, book}
+use Rattle.line_rules.specs.Scanners.{past, touches, or_else, last_of, first_of, all_of, moves, position, book}
+use Rattle.quorums.specs.Groups.{Has}
 
 pub same_number : (x : ℕ) → nat_eq x x ≡ true
 same_number x = grind (arith, nat_tests)

@@ -14,7 +14,8 @@ use Rattle.mrp_types.specs.Values.{is_skip}
 use Rattle.plain_model.proofs.TupleOrder.{split_and, both_true}
 use Rattle.plain_model.proofs.TupleChain.{is_le, le_is}
 use Rattle.transcript.specs.declared.line.Line.{Line}
-use Rattle.line_rules.specs.Scanners.{Mark, Opened, Closed, Begun, Restored, Has, life}
+use Rattle.line_rules.specs.Scanners.{Mark, Opened, Closed, Begun, Restored, life}
+use Rattle.quorums.specs.Groups.{Has}
 use Rattle.line_rules.specs.Tests.{is_some_that, all_pass, is_restored, is_ready, is_same_value, is_pair, is_among}
 
 -- ---- tests

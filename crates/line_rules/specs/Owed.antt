@@ -6,13 +6,13 @@ use Rattle.mrp_types.specs.declared.value.Entry.{Entry}
 use Rattle.mrp_types.specs.Book.{Learning}
 use Rattle.command_codec.specs.declared.reply.Reply.{Reply as Answered}
 use Rattle.command_codec.specs.Replies.{reply_bytes}
-use Rattle.mrp_config.specs.Config.{Config}
+use Rattle.mrp_config.specs.Config.{Config, partition_of}
 use Rattle.mrp_config.specs.declared.tables.PartitionTable.{PartitionTable}
 use Rattle.plain_model.specs.Tuples.{round_sizes, tuple_at}
 use Rattle.plain_model.specs.Fold.{entries_below, entries_at_place, place_with, reply_to}
 use Rattle.transcript.specs.declared.line.Line.{Line}
 use Rattle.transcript.specs.declared.line.Line.TheVariants.{Deliver, Reply}
-use Rattle.line_rules.specs.Scanners.{learned, partition_of}
+use Rattle.line_rules.specs.Scanners.{learned}
 
 -- the line of a reply to the entry at an index of a place's batch, where it gets one
 abbrev pub reply_line : NodeId → Place → ℕ → Entry → Option Answered → List Line

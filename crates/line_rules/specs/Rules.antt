@@ -18,7 +18,7 @@ use Rattle.mrp_types.specs.declared.id.TheConstants.{END}
 use Rattle.mrp_types.specs.declared.place.Place.{Place}
 use Rattle.mrp_types.specs.declared.value.Value.{Value}
 use Rattle.mrp_types.specs.declared.value.Value.TheVariants.{Skip, Batch}
-use Rattle.mrp_config.specs.Config.{Config, node_at, ring_at, client_at, has_node, has_ring}
+use Rattle.mrp_config.specs.Config.{Config, node_at, ring_at, client_at, has_node, has_ring, partition_of, subscribers_of}
 use Rattle.mrp_config.specs.declared.tables.NodeTable.{NodeTable}
 use Rattle.mrp_config.specs.declared.tables.RingTable.{RingTable}
 use Rattle.mrp_config.specs.declared.tables.ClientTable.{ClientTable}
@@ -29,7 +29,8 @@ use Rattle.plain_model.specs.Faithful.{IsWide}
 use Rattle.transcript.specs.declared.line.ShownState.{ShownState}
 use Rattle.transcript.specs.declared.line.Line.{Line}
 use Rattle.transcript.specs.declared.line.Line.TheVariants.{Learn, Deliver, Reply, Answer, Busy, Begin, Chose, Restore, Saved, Trim, Refuse, BallotLimit, InstanceLimit, AttemptLimit, Down, Up, State, Frame}
-use Rattle.line_rules.specs.Scanners.{Has, Restored, life, up_epoch, attempting, unchosen, chosen, before_begin, told, begun, entry_of, Reaches, some_reaches, position, book, learned, past, partition_of, subscribers_of}
+use Rattle.line_rules.specs.Scanners.{Restored, life, up_epoch, attempting, unchosen, chosen, before_begin, told, begun, entry_of, Reaches, some_reaches, position, book, learned, past}
+use Rattle.quorums.specs.Groups.{Has}
 use Rattle.line_rules.specs.Owed.{owed}
 use Rattle.line_rules.specs.Names.{Rule}
 use Rattle.line_rules.specs.Names as rule

@@ -1,29 +1,12 @@
 -- What is read of lines. A list of lines that were printed stands with the latest first, so what stands before a line is the
 -- rest of the list, and what one more line changes is a step of each definition.
-use Rattle.std.specs.Prelude.{◌≡◌, ℕ, ◌≤◌, ◌⊎◌, ◌==◌, nat_le, nat_lt, ◌&&◌, Bool, true, false, if◌then◌else◌, List, [], ◌∷◌, ◌++◌, filter, Option, Some, None}
-use Rattle.mrp_types.specs.declared.id.NodeId.{NodeId}
+use Rattle.std.specs.Prelude.{ℕ, ◌≤◌, ◌==◌, nat_le, nat_lt, ◌&&◌, Bool, true, false, if◌then◌else◌, List, [], ◌∷◌, ◌++◌, Option, Some, None}
 use Rattle.mrp_types.specs.declared.id.RingId.{RingId}
 use Rattle.mrp_types.specs.declared.value.Value.{Value}
 use Rattle.mrp_types.specs.Book.{Learning}
-use Rattle.mrp_config.specs.Config.{has_node, has_ring}
-use Rattle.mrp_config.specs.declared.tables.PartitionTable.{PartitionTable}
 use Rattle.plain_model.specs.Tuples.{first_tuple, moved_past, tuple_at}
 use Rattle.transcript.specs.declared.line.Line.{Line}
 use Rattle.transcript.specs.declared.line.Line.TheVariants.{Learn, Deliver, Begin, Chose, Restore, Saved, Down, Up}
-
--- it stands in the list
-abbrev pub Has : {X : Type 0} → List X → X → Type 0
-Has [] x = ⊥
-Has (y ∷ ys) x = (x ≡ y) ⊎ Has ys x
-
--- the partition of which a node is a replica
-abbrev pub partition_of : List PartitionTable → NodeId → Option PartitionTable
-partition_of [] node = None
-partition_of (p ∷ partitions) node = if has_node p.replicas node.0 then Some p else partition_of partitions node
-
--- the partitions that subscribe to a ring, in order
-abbrev pub subscribers_of : List PartitionTable → RingId → List PartitionTable
-subscribers_of partitions ring = filter (λ (p : PartitionTable). has_ring p.rings ring.0) partitions
 
 -- lines in the order in which they were printed, after others
 abbrev pub past : List Line → List Line → List Line

@@ -10,14 +10,14 @@ use Rattle.mrp_types.specs.declared.value.Value.{Value}
 use Rattle.mrp_types.specs.declared.value.Value.TheVariants.{Skip, Batch}
 use Rattle.mrp_types.specs.Book.{Learning}
 use Rattle.mrp_types.specs.Values.{is_skip}
-use Rattle.mrp_config.specs.Config.{Config, node_at, ring_at, client_at, has_node, has_ring}
+use Rattle.mrp_config.specs.Config.{Config, node_at, ring_at, client_at, has_node, has_ring, partition_of, subscribers_of}
 use Rattle.mrp_config.specs.declared.tables.PartitionTable.{PartitionTable}
 use Rattle.plain_model.specs.Tuples.{round_sizes, is_tuple_of, is_at_or_after, instances, tuple_at}
 use Rattle.plain_model.specs.Fold.{place_with, state_below, answer_of}
 use Rattle.transcript.specs.declared.line.ShownState.{ShownState}
 use Rattle.transcript.specs.declared.line.Line.{Line}
 use Rattle.transcript.specs.declared.line.Line.TheVariants.{Learn, Deliver, Reply, Answer, Busy, Begin, Chose, Restore, Saved, Trim, Refuse, BallotLimit, InstanceLimit, AttemptLimit, Down, Up, State, Frame}
-use Rattle.line_rules.specs.Scanners.{Mark, Restored, life, up_epoch, attempting, unchosen, chosen, before_begin, told, begun, entry_of, some_reaches, paired, position, book, learned, partition_of, subscribers_of}
+use Rattle.line_rules.specs.Scanners.{Mark, Restored, life, up_epoch, attempting, unchosen, chosen, before_begin, told, begun, entry_of, some_reaches, paired, position, book, learned}
 use Rattle.line_rules.specs.Owed.{owed}
 
 -- ---- words

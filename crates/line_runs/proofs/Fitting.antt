@@ -4,13 +4,12 @@ use Rattle.std.specs.Prelude.{◌==◌, length, if◌then◌else◌}
 use Rattle.std.specs.List.{AllByRecursion}
 use Rattle.std.proofs.lemmas.Bool.Decides.{nat_tests}
 use Rattle.mrp_types.specs.declared.id.NodeId.{NodeId}
-use Rattle.mrp_config.specs.Config.{Config, has_node}
+use Rattle.mrp_config.specs.Config.{Config, has_node, partition_of}
 use Rattle.mrp_config.specs.Walk.{is_among, numbers_of_nodes, node_ids, ring_ids}
 use Rattle.mrp_config.specs.Valid.{IsValid, IsPartition, AreQuorums, AreApart, AreAllApart, replicas_of}
 use Rattle.mrp_config.proofs.Rounds.{round_in_range}
 use Rattle.mrp_config.specs.declared.tables.PartitionTable.{PartitionTable}
 use Rattle.quorums.specs.Groups.{Has}
-use Rattle.protocol.specs.Opening.{partition_of}
 use Rattle.faithful.proofs.Quorum.{all_has}
 use Rattle.recovery_lines.specs.Ties.{IsFit}
 

@@ -2,10 +2,9 @@
 use Rattle.std.proofs.Common.{◌≡◌, ℕ, suc, ◌<◌, inl, inr, List, [], ◌∷◌, refl, arith}
 use Rattle.std.specs.Prelude.{length}
 use Rattle.mrp_types.specs.declared.id.RingId.{RingId}
-use Rattle.mrp_config.specs.Config.{Config}
+use Rattle.mrp_config.specs.Config.{Config, subscribers_of}
 use Rattle.mrp_config.specs.declared.tables.PartitionTable.{PartitionTable}
 use Rattle.quorums.specs.Groups.{Has}
-use Rattle.protocol.specs.Rings.{subscribers_of}
 use Rattle.bare_world.specs.Worlds.{Happening}
 use Rattle.faithful.specs.Scanners.{some_reaches, told}
 use Rattle.faithful.specs.Rules.{HaveTold, AllHaveTold}

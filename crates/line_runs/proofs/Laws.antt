@@ -13,7 +13,7 @@ use Rattle.mrp_types.specs.declared.id.RingId.{RingId}
 use Rattle.mrp_types.specs.declared.id.Party.{Party}
 use Rattle.mrp_types.specs.declared.id.Party.TheVariants.{Node}
 use Rattle.mrp_types.specs.declared.value.Value.{Value}
-use Rattle.mrp_config.specs.Config.{Config}
+use Rattle.mrp_config.specs.Config.{Config, partition_of}
 use Rattle.mrp_config.specs.declared.tables.PartitionTable.{PartitionTable}
 use Rattle.frames.specs.declared.body.Body.{Body}
 use Rattle.frames.specs.declared.body.Body.TheVariants.{Promise, Trimmed, TrimTo}
@@ -21,7 +21,6 @@ use Rattle.frames.specs.declared.sent.Sent.{Sent}
 use Rattle.plain_model.proofs.TupleOrder.{split_and}
 use Rattle.quorums.specs.Groups.{Has}
 use Rattle.protocol.specs.Lines.{Line, Learn, Begin, Chose, Restore, Trim, Down as WentDown, Up as WentUp}
-use Rattle.protocol.specs.Opening.{partition_of}
 use Rattle.protocol.specs.Node.{View, Service, Stage, Ready, Standing}
 use Rattle.bare_world.specs.Worlds.{Possible, Host, Up, Down, Happening, nothing, World}
 use Rattle.bare_world.specs.Runs.{run}

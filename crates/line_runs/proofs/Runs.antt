@@ -7,7 +7,7 @@ use Rattle.std.specs.List.{AllByRecursion}
 use Rattle.mrp_types.specs.declared.id.NodeId.{NodeId}
 use Rattle.mrp_types.specs.declared.id.Party.{Party}
 use Rattle.mrp_types.specs.declared.id.Party.TheVariants.{Node}
-use Rattle.mrp_config.specs.Config.{Config}
+use Rattle.mrp_config.specs.Config.{Config, partition_of}
 use Rattle.mrp_config.specs.declared.tables.PartitionTable.{PartitionTable}
 use Rattle.frames.specs.declared.frame.Frame.{Frame}
 use Rattle.frames.specs.declared.sent.Sent.{Sent}
@@ -18,7 +18,7 @@ use Rattle.vote_journal.specs.Journal.{Journal}
 use Rattle.protocol.specs.Lines.{Line, Cause}
 use Rattle.protocol.specs.Lines as line
 use Rattle.protocol.specs.Client.{ClientEffects, asks, client_ticks, client_takes}
-use Rattle.protocol.specs.Opening.{partition_of, parts_of, opened}
+use Rattle.protocol.specs.Opening.{parts_of, opened}
 use Rattle.protocol.specs.Node.{View, Event, Ticks, Takes, Leads, Stepped}
 use Rattle.protocol.specs.Step.{step}
 use Rattle.bare_world.specs.Worlds.{Possible, Host, Up, Down, World, Happening, Steps, Breaks, Crashes, Opens, Fails, Asks, ClientTicks, ClientTakes, Shows, Lists, chosen, possible_of, happens, steps_as, breaks_as, crashes_as, opens_as, fails_as, client_step, state_of_host, with_lines}

@@ -4,10 +4,9 @@ use Rattle.std.proofs.Common.{◌≡◌, ℕ, zero, suc, inl, inr, List, [], ◌
 use Rattle.std.specs.Prelude.{replicate, slice_index_or}
 use Rattle.mrp_types.specs.declared.id.RingId.{RingId}
 use Rattle.mrp_types.specs.declared.place.Place.{Place}
-use Rattle.mrp_config.specs.Config.{Config}
+use Rattle.mrp_config.specs.Config.{Config, partition_of}
 use Rattle.mrp_config.specs.declared.tables.PartitionTable.{PartitionTable}
 use Rattle.plain_model.specs.Tuples.{round_sizes, first_tuple, has_rings, IsBelow}
-use Rattle.protocol.specs.Opening.{partition_of}
 use Rattle.vote_state.specs.State.{nothing_kept, no_votes}
 use Rattle.bare_world.specs.Worlds.{nothing}
 use Rattle.faithful.proofs.Growing.{same_number}

@@ -2,14 +2,13 @@
 use Rattle.std.proofs.Common.{◌≡◌, ℕ, ◌≤◌, inl, inr, true, List, Some, sym, ◌∙◌, subst, arith}
 use Rattle.mrp_types.specs.declared.id.NodeId.{NodeId}
 use Rattle.mrp_types.specs.declared.id.RingId.{RingId}
-use Rattle.mrp_config.specs.Config.{Config}
+use Rattle.mrp_config.specs.Config.{Config, partition_of}
 use Rattle.mrp_config.specs.declared.tables.PartitionTable.{PartitionTable}
 use Rattle.frames.specs.declared.body.Body.{Body}
 use Rattle.frames.specs.declared.body.Body.TheVariants.{HaveCheckpoint, AskPart, Part as PartFrame, Gone, Safe}
 use Rattle.frames.specs.declared.sent.Sent.{Sent}
 use Rattle.quorums.specs.Groups.{Has}
 use Rattle.plain_model.specs.Tuples.{instances}
-use Rattle.protocol.specs.Opening.{partition_of}
 use Rattle.bare_world.specs.Worlds.{Possible, Happening, nothing}
 use Rattle.bare_world.specs.Runs.{run}
 use Rattle.faithful.specs.Scanners.{entry_of, some_reaches, told}

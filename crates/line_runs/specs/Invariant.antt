@@ -2,9 +2,8 @@
 use Rattle.std.specs.Prelude.{◌≡◌, ℕ, List, []}
 use Rattle.std.specs.List.{AllByRecursion}
 use Rattle.mrp_types.specs.declared.id.NodeId.{NodeId}
-use Rattle.mrp_config.specs.Config.{Config}
+use Rattle.mrp_config.specs.Config.{Config, partition_of}
 use Rattle.protocol.specs.Lines.{Line}
-use Rattle.protocol.specs.Opening.{partition_of}
 use Rattle.protocol.specs.Node.{View}
 use Rattle.bare_world.specs.Worlds.{Possible, Host, Up, Down, World}
 use Rattle.faithful.specs.Scanners.{past}

@@ -5,7 +5,7 @@ use Rattle.mrp_types.specs.declared.id.NodeId.{NodeId}
 use Rattle.mrp_types.specs.declared.id.RingId.{RingId}
 use Rattle.mrp_types.specs.declared.id.Party.TheVariants.{Node}
 use Rattle.mrp_types.specs.declared.value.Value.{Value}
-use Rattle.mrp_config.specs.Config.{Config, has_node, has_ring}
+use Rattle.mrp_config.specs.Config.{Config, has_node, has_ring, partition_of, subscribers_of}
 use Rattle.mrp_config.specs.Valid.{IsValid}
 use Rattle.mrp_config.specs.declared.tables.PartitionTable.{PartitionTable}
 use Rattle.frames.specs.declared.body.Body.{Body}
@@ -14,9 +14,7 @@ use Rattle.frames.specs.declared.sent.Sent.{Sent}
 use Rattle.quorums.specs.Groups.{Has}
 use Rattle.plain_model.specs.Tuples.{round_sizes, is_tuple_of, instances}
 use Rattle.protocol.specs.Lines.{Line, Begin, Learn, Restore, Trim}
-use Rattle.protocol.specs.Opening.{partition_of}
 use Rattle.protocol.specs.Recovery.{tuple_of_newest}
-use Rattle.protocol.specs.Rings.{subscribers_of}
 use Rattle.bare_world.specs.Worlds.{Possible, Host, Up, Down, Happening, nothing, possible_of}
 use Rattle.bare_world.specs.Runs.{run, MayRun}
 use Rattle.faithful.specs.Scanners.{before_begin, told, Reaches, entry_of}

@@ -10,7 +10,7 @@
 ghost use Rattle.std.specs.Prelude.{◌≡◌, ◌≤◌, ℕ, Bool, true, List, ◌∷◌, ◌++◌, Option, Some};
 ghost use Rattle.mrp_types.specs.declared.id.NodeId.{NodeId};
 ghost use Rattle.mrp_types.specs.declared.id.RingId.{RingId};
-ghost use Rattle.mrp_config.specs.Config.{Config, has_ring};
+ghost use Rattle.mrp_config.specs.Config.{Config, has_ring, partition_of};
 ghost use Rattle.mrp_config.specs.Valid.{IsValid};
 ghost use Rattle.mrp_config.specs.declared.tables.PartitionTable.{PartitionTable};
 ghost use Rattle.frames.specs.declared.body.Body.{Body};
@@ -20,7 +20,6 @@ ghost use Rattle.quorums.specs.Groups.{Has};
 ghost use Rattle.plain_model.specs.Tuples.{round_sizes, is_tuple_of, instances};
 ghost use Rattle.protocol.specs.Lines.{Line, Begin, Chose, Deliver, Refuse, Restore, Saved, Trim};
 ghost use Rattle.protocol.specs.Node.{Ready, Service, Standing, View};
-ghost use Rattle.protocol.specs.Opening.{partition_of};
 ghost use Rattle.vote_state.specs.State.{trim_at};
 ghost use Rattle.bare_world.specs.Worlds.{Happening, Possible, Up, nothing};
 ghost use Rattle.bare_world.specs.Runs.{run};

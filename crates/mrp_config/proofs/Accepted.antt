@@ -3,14 +3,16 @@ use Rattle.std.proofs.Common.{arith, ◌≡◌, ℕ, ◌+◌, ◌≤◌, ◌==�
 use Rattle.std.proofs.lemmas.Bool.{leb-true}
 use Rattle.std.specs.List.{AllByRecursion}
 use Rattle.toml.specs.Data.{Data, Members, get_member}
-use Rattle.mrp_config.specs.declared.fault.ConfigFault.TheVariants.{Missing}
+use Rattle.config_walk.specs.declared.fault.ConfigFault.TheVariants.{Missing}
 use Rattle.mrp_config.specs.declared.tables.NodeTable.{NodeTable}
 use Rattle.mrp_config.specs.declared.tables.ClientTable.{ClientTable}
 use Rattle.mrp_config.specs.declared.tables.RingTable.{RingTable}
-use Rattle.mrp_config.specs.Address.{IsAddress}
-use Rattle.mrp_config.specs.Walk.{unless, address_of, id_of, all_known, tables_in, some_tables, tables_of, entries_in, node_of, client_of, ring_of, acceptors_of, size_of, nodes_of, clients_of, rings_of, top_nodes, top_clients, top_rings, numbers_of_nodes, node_ids, ring_ids}
+use Rattle.config_walk.specs.Address.{IsAddress}
+use Rattle.mrp_types.specs.Seats.{numbers_of_nodes}
+use Rattle.config_walk.specs.Values.{unless, address_of, id_of, all_known, tables_in, some_tables, tables_of, entries_in, seats_of}
+use Rattle.mrp_config.specs.Walk.{node_of, client_of, ring_of, size_of, nodes_of, clients_of, rings_of, top_nodes, top_clients, top_rings, node_ids, ring_ids}
 use Rattle.mrp_config.specs.Valid.{IncreasesFrom, AreAtMost, IsBetween, AreSeats, AreNodes, AreClients, AreRings, client_ids}
-use Rattle.mrp_config.proofs.Seen.{bound, ok_is, tested, then_was, Chained, chain_saw, as_many, number_saw, id_saw, address_saw, seats_saw}
+use Rattle.config_walk.proofs.Seen.{bound, ok_is, tested, then_was, Chained, chain_saw, as_many, number_saw, id_saw, address_saw, seats_saw}
 
 -- ---- lists of tables
 
@@ -18,6 +20,7 @@ is_zero : (n : ℕ) → (n == 0) ≡ true → n ≤ 0
 is_zero n h = grind arith
 
 pub tables_saw : (name : List ℕ) (fewest most : ℕ) (found : Option Data) (ts : List Members) → tables_of name fewest most found ≡ Ok ts → IsBetween fewest most (length ts)
+unfolding tables_of
 tables_saw name fewest most None ts h =
     let t = then_was (fewest == 0) (Missing name) (Ok []) ts h in
     let same : [] ≡ ts = ok_is [] ts t.1 in
@@ -115,10 +118,10 @@ size_saw usual None m good h = subst (IsBetween 1 1024) (ok_is usual m h) good
 size_saw usual (Some value) m good h = number_saw (codes "ring.m") 1 1024 (Some value) m h
 
 ring_saw : (usual : ℕ) (ids : List ℕ) (least : ℕ) (t : Members) (ring : RingTable) → IsBetween 1 1024 usual → ring_of usual ids least t ≡ Ok ring → IsIn ids least ring
-unfolding ring_of acceptors_of
+unfolding ring_of
 ring_saw usual ids least t ring good h =
     let a = bound (id_of (codes "ring.id") 15 least (get_member (codes "id") t)) _ ring h in
-    let b = bound (acceptors_of ids t) _ ring a.2 in
+    let b = bound (seats_of (codes "ring.acceptors") [] ids (get_member (codes "acceptors") t)) _ ring a.2 in
     let m = bound (size_of usual (get_member (codes "m") t)) _ ring b.2 in
     let c = bound (all_known (codes "ring.") (codes "id" ∷ codes "acceptors" ∷ codes "m" ∷ []) t) _ ring m.2 in
     let id = id_saw (codes "ring.id") 15 least (get_member (codes "id") t) a.0 a.1 in

@@ -7,9 +7,10 @@ use Rattle.mrp_config.specs.declared.tables.ClientTable.{ClientTable}
 use Rattle.mrp_config.specs.declared.tables.RingTable.{RingTable}
 use Rattle.mrp_config.specs.declared.tables.PartitionTable.{PartitionTable}
 use Rattle.mrp_config.specs.Config.{Config, config_with}
-use Rattle.mrp_config.specs.Walk.{read_of, number_of, top_numbers, top_nodes, top_clients, top_rings, top_partitions, node_ids, ring_ids, all_known, top_names, judged, config_of, table_of}
+use Rattle.config_walk.specs.Values.{number_of, all_known}
+use Rattle.mrp_config.specs.Walk.{read_of, top_numbers, top_nodes, top_clients, top_rings, top_partitions, node_ids, ring_ids, top_names, judged, config_of, table_of}
 use Rattle.mrp_config.specs.Valid.{IsBetween, IsValid}
-use Rattle.mrp_config.proofs.Seen.{bound, ok_is, number_saw}
+use Rattle.config_walk.proofs.Seen.{bound, ok_is, number_saw}
 use Rattle.mrp_config.proofs.Accepted.{top_nodes_saw, top_clients_saw, top_rings_saw}
 use Rattle.mrp_config.proofs.AcceptedPartitions.{top_partitions_saw}
 

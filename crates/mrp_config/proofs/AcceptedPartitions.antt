@@ -7,16 +7,17 @@ use Rattle.std.specs.Str.{bytes_eq}
 use Rattle.std.specs.List.{AllByRecursion}
 use Rattle.toml.specs.Data.{Data, Members, get_member}
 use Rattle.mrp_types.proofs.TestLemmas.{both, below}
-use Rattle.mrp_types.specs.declared.id.NodeId.{NodeId}
 use Rattle.mrp_types.specs.declared.id.RingId.{RingId}
 use Rattle.mrp_types.specs.declared.id.LogId.{LogId}
 use Rattle.mrp_config.specs.declared.tables.PartitionTable.{PartitionTable}
 use Rattle.mrp_config.specs.Config.{has_log, has_ring}
-use Rattle.mrp_config.specs.Walk.{unless, number_of, numbers_of, is_among, each_rises, each_known, id_of, all_known, tables_of, numbers_of_nodes, subscribed_of, home_of, logs_of, as_rings, as_logs, replicas_at, rings_at, home_at, from_at, to_at, logs_at, trim_quorum_at, recovery_quorum_at, partition_names, partition_of, Asked, asked_after, top_partitions, has_quorums, quorums_meet, ends_well, ranges_follow, first_taken, logs_once, judged}
-use Rattle.mrp_config.specs.Valid.{IncreasesFrom, AreAtMost, AreAmong, AreApart, AreAllApart, IsBetween, AreSeats, IsKey, AreQuorums, IsPartition, ArePartitions, AreEndToEnd, numbers_of_rings, numbers_of_logs, partition_ids, replicas_of, logs_of as lists_of_logs}
-use Rattle.mrp_config.proofs.Seen.{bound, ok_is, tested, then_was, else_was, Chained, chain_saw, as_many, id_saw, hex_saw, numbers_saw, rises_saw, known_saw, seats_saw, apart_split}
+use Rattle.mrp_types.specs.Seats.{is_among, numbers_of_nodes}
+use Rattle.config_walk.specs.Values.{unless, number_of, numbers_of, each_rises, each_known, id_of, all_known, tables_of, subscribed_of, logs_of, as_rings, as_logs, seats_of, hex_of, quorum_of}
+use Rattle.mrp_config.specs.Walk.{home_of, partition_names, partition_of, Asked, asked_after, top_partitions, has_quorums, quorums_meet, ends_well, ranges_follow, first_taken, logs_once, judged}
+use Rattle.mrp_config.specs.Valid.{IncreasesFrom, AreAtMost, AreAmong, AreApart, AreAllApart, IsBetween, AreQuorums, IsPartition, ArePartitions, AreEndToEnd, numbers_of_rings, numbers_of_logs, partition_ids, replicas_of, logs_of as lists_of_logs}
+use Rattle.config_walk.proofs.Seen.{bound, ok_is, tested, then_was, else_was, Chained, chain_saw, as_many, id_saw, hex_saw, numbers_saw, rises_saw, known_saw, seats_saw, apart_split}
 use Rattle.mrp_config.proofs.Accepted.{IsId, tables_saw}
-use Rattle.mrp_config.proofs.Routes.{has_is_among}
+use Rattle.mrp_config.proofs.Members.{has_is_among}
 
 -- ---- the lists of one partition
 
@@ -41,6 +42,7 @@ record AreSubscribed (rings ns : List ℕ) : Type 0 where
   known : AreAmong rings ns
 
 subscribed_saw : (name rings : List ℕ) (found : Option Data) (own : List RingId) → subscribed_of name rings found ≡ Ok own → AreSubscribed rings (numbers_of_rings own)
+unfolding subscribed_of
 subscribed_saw name rings found own h =
     let a = bound (numbers_of name 1 16 15 found) _ own h in
     let b = bound (each_rises name 0 a.0) _ own a.2 in
@@ -49,9 +51,10 @@ subscribed_saw name rings found own h =
     let same : a.0 ≡ numbers_of_rings own = rings_back a.0 ∙ ap numbers_of_rings (ok_is (as_rings a.0) own c.2) in
     subst (AreSubscribed rings) same (record { some = many.0; numbers = many.1; increase = rises_saw name 0 a.0 b.0 b.1; known = known_saw name rings a.0 c.0 c.1 })
 
-home_saw : (name : List ℕ) (rings : List RingId) (found : Option Data) (home : RingId) → home_of name rings found ≡ Ok home → is_among home.0 (numbers_of_rings rings) ≡ true
-home_saw name rings found home h =
-    let a = bound (number_of name 0 15 found) _ home h in
+home_saw : (rings : List RingId) (found : Option Data) (home : RingId) → home_of rings found ≡ Ok home → is_among home.0 (numbers_of_rings rings) ≡ true
+unfolding home_of
+home_saw rings found home h =
+    let a = bound (number_of (codes "partition.home") 0 15 found) _ home h in
     let b = bound (unless (has_ring rings a.0) _) (λ u. Ok (record { 0 = a.0 })) home a.2 in
     subst (λ (k : RingId). is_among k.0 (numbers_of_rings rings) ≡ true) (ok_is (record { 0 = a.0 }) home b.2) (sym (has_is_among rings a.0) ∙ tested _ _ b.0 b.1)
 
@@ -61,36 +64,13 @@ record AreLogs (ns : List ℕ) : Type 0 where
   increase : IncreasesFrom 0 ns
 
 logs_saw : (name : List ℕ) (found : Option Data) (logs : List LogId) → logs_of name found ≡ Ok logs → AreLogs (numbers_of_logs logs)
+unfolding logs_of
 logs_saw name found logs h =
     let a = bound (numbers_of name 0 64 63 found) _ logs h in
     let b = bound (each_rises name 0 a.0) (λ u. Ok (as_logs a.0)) logs a.2 in
     let many = numbers_saw name 0 64 63 found a.0 a.1 in
     let same : a.0 ≡ numbers_of_logs logs = logs_back a.0 ∙ ap numbers_of_logs (ok_is (as_logs a.0) logs b.2) in
     subst AreLogs same (record { few = many.0.1; numbers = many.1; increase = rises_saw name 0 a.0 b.0 b.1 })
-
-replicas_saw : (nodes taken : List ℕ) (t : Members) (replicas : List NodeId) → replicas_at nodes taken t ≡ Ok replicas → AreSeats nodes (numbers_of_nodes replicas) × AreApart taken (numbers_of_nodes replicas)
-unfolding replicas_at
-replicas_saw nodes taken t replicas h = seats_saw (codes "partition.replicas") taken nodes (get_member (codes "replicas") t) replicas h
-
-own_saw : (rings : List ℕ) (t : Members) (own : List RingId) → rings_at rings t ≡ Ok own → AreSubscribed rings (numbers_of_rings own)
-unfolding rings_at
-own_saw rings t own h = subscribed_saw (codes "partition.rings") rings (get_member (codes "rings") t) own h
-
-home_at_saw : (own : List RingId) (t : Members) (home : RingId) → home_at own t ≡ Ok home → is_among home.0 (numbers_of_rings own) ≡ true
-unfolding home_at
-home_at_saw own t home h = home_saw (codes "partition.home") own (get_member (codes "home") t) home h
-
-from_saw : (t : Members) (key : List ℕ) → from_at t ≡ Ok key → IsKey key
-unfolding from_at
-from_saw t key h = hex_saw (codes "partition.from") (get_member (codes "from") t) key h
-
-to_saw : (t : Members) (key : List ℕ) → to_at t ≡ Ok key → IsKey key
-unfolding to_at
-to_saw t key h = hex_saw (codes "partition.to") (get_member (codes "to") t) key h
-
-logs_at_saw : (t : Members) (logs : List LogId) → logs_at t ≡ Ok logs → AreLogs (numbers_of_logs logs)
-unfolding logs_at
-logs_at_saw t logs h = logs_saw (codes "partition.logs") (get_member (codes "logs") t) logs h
 
 record SawPartition (nodes rings taken : List ℕ) (start : ℕ) (p : PartitionTable) : Type 0 where
   id : IsId start 15 p.id.0
@@ -101,18 +81,18 @@ partition_saw : (nodes rings taken : List ℕ) (start : ℕ) (t : Members) (p : 
 unfolding partition_of
 partition_saw nodes rings taken start t p h =
     let a = bound (id_of (codes "partition.id") 15 start (get_member (codes "id") t)) _ p h in
-    let b = bound (replicas_at nodes taken t) _ p a.2 in
-    let c = bound (rings_at rings t) _ p b.2 in
-    let d = bound (home_at c.0 t) _ p c.2 in
-    let e = bound (from_at t) _ p d.2 in
-    let f = bound (to_at t) _ p e.2 in
-    let g = bound (logs_at t) _ p f.2 in
-    let i = bound (trim_quorum_at t) _ p g.2 in
-    let j = bound (recovery_quorum_at t) _ p i.2 in
+    let b = bound (seats_of (codes "partition.replicas") taken nodes (get_member (codes "replicas") t)) _ p a.2 in
+    let c = bound (subscribed_of (codes "partition.rings") rings (get_member (codes "rings") t)) _ p b.2 in
+    let d = bound (home_of c.0 (get_member (codes "home") t)) _ p c.2 in
+    let e = bound (hex_of (codes "partition.from") (get_member (codes "from") t)) _ p d.2 in
+    let f = bound (hex_of (codes "partition.to") (get_member (codes "to") t)) _ p e.2 in
+    let g = bound (logs_of (codes "partition.logs") (get_member (codes "logs") t)) _ p f.2 in
+    let i = bound (quorum_of (codes "partition.trim_quorum") (get_member (codes "trim_quorum") t)) _ p g.2 in
+    let j = bound (quorum_of (codes "partition.recovery_quorum") (get_member (codes "recovery_quorum") t)) _ p i.2 in
     let k = bound (all_known (codes "partition.") partition_names t) _ p j.2 in
-    let replicas = replicas_saw nodes taken t b.0 b.1 in
-    let own = own_saw rings t c.0 c.1 in
-    let logs = logs_at_saw t g.0 g.1 in
+    let replicas = seats_saw (codes "partition.replicas") taken nodes (get_member (codes "replicas") t) b.0 b.1 in
+    let own = subscribed_saw (codes "partition.rings") rings (get_member (codes "rings") t) c.0 c.1 in
+    let logs = logs_saw (codes "partition.logs") (get_member (codes "logs") t) g.0 g.1 in
     subst (SawPartition nodes rings taken start) (ok_is (record {
       id = record { 0 = a.0 };
       replicas = b.0;
@@ -132,9 +112,9 @@ partition_saw nodes rings taken start t p h =
         increase = own.increase;
         numbers = own.numbers;
         known = own.known;
-        home = home_at_saw c.0 t d.0 d.1;
-        from = from_saw t e.0 e.1;
-        to = to_saw t f.0 f.1;
+        home = home_saw c.0 (get_member (codes "home") t) d.0 d.1;
+        from = hex_saw (codes "partition.from") (get_member (codes "from") t) e.0 e.1;
+        to = hex_saw (codes "partition.to") (get_member (codes "to") t) f.0 f.1;
         few_logs = rw (← as_many_logs g.0) logs.few;
         logs = logs.increase;
         low_logs = logs.numbers;

@@ -5,7 +5,7 @@ use Rattle.std.proofs.lemmas.Bool.{cases_Bool}
 use Rattle.std.proofs.lemmas.Str.{IsUtf8-from_is_utf8, is_utf8-from_IsUtf8}
 use Rattle.toml.specs.Data.{Members}
 use Rattle.toml.specs.Parse.{parse_document}
-use Rattle.mrp_config.specs.declared.fault.ConfigFault.TheVariants.{NotToml}
+use Rattle.config_walk.specs.declared.fault.ConfigFault.TheVariants.{NotToml}
 use Rattle.mrp_config.specs.Walk.{table_of}
 
 pub is_table : (bytes : List ℕ) (t : Members) → length bytes ≤ 1048576 → IsUtf8 bytes → parse_document bytes ≡ Some t → table_of bytes ≡ Ok t

@@ -1,5 +1,5 @@
 -- The rounds of a valid deployment.
-use Rattle.std.proofs.Common.{ℕ, ◌==◌, Bool, true, false, if◌then◌else◌, List, [], ◌∷◌, Option, Some}
+use Rattle.std.proofs.Common.{ℕ, ◌==◌, Bool, true, false, if◌then◌else◌, List, [], ◌∷◌, Some}
 use Rattle.std.specs.List.{AllByRecursion}
 use Rattle.mrp_types.specs.declared.id.RingId.{RingId}
 use Rattle.mrp_config.specs.declared.tables.RingTable.{RingTable}

@@ -1,5 +1,6 @@
 -- What a deployment is: one record of numbers and lists.
-use Rattle.std.specs.Prelude.{ℕ, ◌+◌, ◌==◌, nat_le, nat_lt, ◌&&◌, Bool, true, false, if◌then◌else◌, List, [], ◌∷◌, Option, Some, None}
+use Rattle.std.specs.Prelude.{ℕ, ◌==◌, Bool, true, false, if◌then◌else◌, List, [], ◌∷◌, Option, Some, None}
+use Rattle.std.specs.List.{find, filter}
 use Rattle.mrp_types.specs.declared.id.NodeId.{NodeId}
 use Rattle.mrp_types.specs.declared.id.RingId.{RingId}
 use Rattle.mrp_types.specs.declared.id.LogId.{LogId}
@@ -47,20 +48,16 @@ config_with numbers nodes clients rings partitions = record {
 -- ---- look-ups: the entry with this id
 
 abbrev pub node_at : List NodeTable → ℕ → Option NodeTable
-node_at [] id = None
-node_at (node ∷ nodes) id = if node.id.0 == id then Some node else node_at nodes id
+node_at nodes id = find (λ (node : NodeTable). node.id.0 == id) nodes
 
 abbrev pub client_at : List ClientTable → ℕ → Option ClientTable
-client_at [] id = None
-client_at (client ∷ clients) id = if client.id.0 == id then Some client else client_at clients id
+client_at clients id = find (λ (client : ClientTable). client.id.0 == id) clients
 
 abbrev pub ring_at : List RingTable → ℕ → Option RingTable
-ring_at [] id = None
-ring_at (ring ∷ rings) id = if ring.id.0 == id then Some ring else ring_at rings id
+ring_at rings id = find (λ (ring : RingTable). ring.id.0 == id) rings
 
 abbrev pub partition_at : List PartitionTable → ℕ → Option PartitionTable
-partition_at [] id = None
-partition_at (p ∷ partitions) id = if p.id.0 == id then Some p else partition_at partitions id
+partition_at partitions id = find (λ (p : PartitionTable). p.id.0 == id) partitions
 
 -- ---- the sizes of rounds
 
@@ -87,7 +84,12 @@ abbrev pub has_node : List NodeId → ℕ → Bool
 has_node [] id = false
 has_node (node ∷ nodes) id = if node.0 == id then true else has_node nodes id
 
--- ids of partitions are at least this, below 16, and increase
-abbrev pub ids_rise : ℕ → List PartitionTable → Bool
-ids_rise least [] = true
-ids_rise least (p ∷ partitions) = nat_le least p.id.0 && (nat_lt p.id.0 16 && ids_rise (p.id.0 + 1) partitions)
+-- ---- who is where
+
+-- the partition of which a node is a replica
+abbrev pub partition_of : List PartitionTable → NodeId → Option PartitionTable
+partition_of partitions node = find (λ (p : PartitionTable). has_node p.replicas node.0) partitions
+
+-- the partitions that subscribe to a ring, in order
+abbrev pub subscribers_of : List PartitionTable → RingId → List PartitionTable
+subscribers_of partitions ring = filter (λ (p : PartitionTable). has_ring p.rings ring.0) partitions

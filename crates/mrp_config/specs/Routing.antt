@@ -1,7 +1,8 @@
 -- Which partitions a command concerns, and the ring that orders it.
-use Rattle.std.specs.Prelude.{ℕ, ◌+◌, ◌^◌, ◌==◌, ◌&&◌, ◌||◌, Bool, true, false, if◌then◌else◌, List, [], ◌∷◌, length, Option, Some, None, Result, Ok, Err, not}
+use Rattle.std.specs.Prelude.{ℕ, ◌+◌, ◌^◌, ◌==◌, ◌&&◌, ◌||◌, Bool, if◌then◌else◌, List, [], ◌∷◌, length, Option, Some, None, Result, Ok, Err, not}
 use Rattle.std.specs.Ordering.{nat_cmp, is_lt}
 use Rattle.std.specs.Cmp.Lexicographic.{slice_cmp}
+use Rattle.std.specs.List.{list_any, list_all}
 use Rattle.mrp_types.specs.declared.id.RingId.{RingId}
 use Rattle.mrp_types.specs.declared.id.LogId.{LogId}
 use Rattle.command_codec.specs.declared.command.Command.{Command}
@@ -27,8 +28,7 @@ do_meet from to begin end = is_below from end && is_below begin to
 
 -- whether the partition has one of the logs
 abbrev pub has_some : List LogId → List LogId → Bool
-has_some own [] = false
-has_some own (log ∷ logs) = if has_log own log.0 then true else has_some own logs
+has_some own logs = list_any (λ (log : LogId). has_log own log.0) logs
 
 -- A command on logs concerns the partitions of its logs, a command on a key the partition of the key, a scan
 -- each partition whose range it meets.
@@ -64,8 +64,7 @@ first_concerned command (p ∷ partitions) = if is_concerned command p then Some
 
 -- whether each of the partitions subscribes to the ring
 abbrev pub all_have : List PartitionTable → ℕ → Bool
-all_have [] ring = true
-all_have (p ∷ partitions) ring = if has_ring p.rings ring then all_have partitions ring else false
+all_have partitions ring = list_all (λ (p : PartitionTable). has_ring p.rings ring) partitions
 
 abbrev pub no_group : NoGroup
 no_group = record {}

@@ -1,57 +1,28 @@
 -- What a valid deployment is, in terms of its lists alone.
 use Rattle.std.specs.Prelude.{ℕ, ◌≡◌, ◌+◌, ◌<◌, ◌≤◌, true, false, if◌then◌else◌, List, [], ◌∷◌, length, map, filter, Option, Some, None, Result, Ok, Err}
 use Rattle.std.specs.List.{AllByRecursion}
-use Rattle.hex.specs.Hex.{IsBytes}
 use Rattle.mrp_types.specs.declared.id.RingId.{RingId}
 pub use Rattle.mrp_types.specs.Rings.{IncreasesFrom, numbers_of_rings}
+pub use Rattle.mrp_types.specs.Seats.{AreDifferent}
+pub use Rattle.config_walk.specs.Numbers.{IsBetween, AreAtMost, AreAmong, AreApart, AreSeats, IsKey}
 use Rattle.mrp_types.specs.declared.id.LogId.{LogId}
 use Rattle.mrp_config.specs.declared.tables.NodeTable.{NodeTable}
 use Rattle.mrp_config.specs.declared.tables.ClientTable.{ClientTable}
 use Rattle.mrp_config.specs.declared.tables.RingTable.{RingTable}
 use Rattle.mrp_config.specs.declared.tables.PartitionTable.{PartitionTable}
-use Rattle.mrp_config.specs.Address.{IsAddress}
+use Rattle.config_walk.specs.Address.{IsAddress}
 use Rattle.mrp_config.specs.Config.{Config, has_ring}
 use Rattle.mrp_config.specs.Routing.{is_before, is_within, is_concerned, all_have, no_group}
 use Rattle.mrp_config.specs.declared.routing.NoGroup.{NoGroup}
 use Rattle.command_codec.specs.declared.command.Command.{Command}
 use Rattle.mrp_config.specs.Walk.{is_among, numbers_of_nodes, node_ids, ring_ids}
 
--- ---- lists of numbers
-
--- each is at most `most`
-abbrev pub AreAtMost : ℕ → List ℕ → Type 0
-AreAtMost most ns = AllByRecursion (λ n. n ≤ most) ns
-
--- each is one of these
-abbrev pub AreAmong : List ℕ → List ℕ → Type 0
-AreAmong ids ns = AllByRecursion (λ n. is_among n ids ≡ true) ns
-
--- none stands twice
-abbrev pub AreDifferent : List ℕ → Type 0
-AreDifferent [] = Unit {0}
-AreDifferent (n ∷ ns) = (is_among n ns ≡ false) × AreDifferent ns
-
--- no number is in both
-abbrev pub AreApart : List ℕ → List ℕ → Type 0
-AreApart xs ys = AllByRecursion (λ y. is_among y xs ≡ false) ys
+-- ---- the parts
 
 -- no number is in two of the lists
 abbrev pub AreAllApart : List (List ℕ) → Type 0
 AreAllApart [] = Unit {0}
 AreAllApart (xs ∷ xss) = AllByRecursion (AreApart xs) xss × AreAllApart xss
-
--- both ends included
-abbrev pub IsBetween : ℕ → ℕ → ℕ → Type 0
-IsBetween least most n = (least ≤ n) × (n ≤ most)
-
--- ---- the parts
-
--- one to seven different nodes of the deployment
-pub record AreSeats (nodes seats : List ℕ) : Type 0 where
-  pub few : IsBetween 1 7 (length seats)
-  pub numbers : AreAtMost 31 seats
-  pub different : AreDifferent seats
-  pub known : AreAmong nodes seats
 
 pub record AreNodes (nodes : List NodeTable) : Type 0 where
   pub few : IsBetween 1 32 (length nodes)
@@ -77,11 +48,6 @@ pub record AreRings (nodes : List ℕ) (rings : List RingTable) : Type 0 where
 
 abbrev pub numbers_of_logs : List LogId → List ℕ
 numbers_of_logs logs = map (λ (l : LogId). l.0) logs
-
--- the bytes of a key or of the end of a range
-pub record IsKey (key : List ℕ) : Type 0 where
-  pub few : length key ≤ 256
-  pub bytes : IsBytes key
 
 -- both quorums can be had of n replicas, and any two of them share a replica
 pub record AreQuorums (n trim recovery : ℕ) : Type 0 where

@@ -4,19 +4,22 @@ ghost use Rattle.std.specs.Prelude.{◌≡◌, ◌<◌, ℕ, IfOk};
 ghost use Rattle.std.specs.List.{AllByRecursion};
 ghost use Rattle.std.specs.Option.{option_map};
 ghost use Rattle.toml.specs.View.{table_view};
-ghost use Rattle.mrp_config.specs.Walk.{Says, table_of, config_of, read_of};
+ghost use Rattle.config_walk.specs.Values.{Says};
+ghost use Rattle.mrp_config.specs.Walk.{table_of, config_of, read_of};
 ghost use Rattle.mrp_types.specs.Rounds.{size_of};
 ghost use Rattle.mrp_config.specs.Config.{node_at, client_at, ring_at, partition_at, size_or, round_of};
 ghost use Rattle.mrp_config.specs.Valid.{IsBetween, IsValid};
 ghost use Rattle.mrp_config.specs.Routing.{mask_of, route_of, concerned_of};
 
 use crate::routing::{NoGroup, mask_concerned, ring_of};
+use crate::tables::copy_tables;
 use crate::walk::{
     judge, judge_top_names, node_ids, read_clients, read_nodes, read_numbers, read_partitions,
     read_rings, ring_ids,
 };
-use crate::{ClientTable, ConfigFault, NodeTable, PartitionTable, RingTable};
+use crate::{ClientTable, NodeTable, PartitionTable, RingTable};
 use command_codec::Command;
+use config_walk::ConfigFault;
 use mrp_types::{ClientId, Memory, NodeId, PartitionId, RingId, RoundSizes};
 use std::alloc::Global;
 use std::marker::Model;
@@ -188,28 +191,28 @@ impl Deployment {
     pub fn node(&self, id: NodeId) -> Option<&NodeTable>
         ensures { option_map (λ t. t.now) result ≡ node_at self.now.nodes id.0 }
     {
-        find_node(&self.nodes, id)
+        self.nodes.iter().find(|table| table.id == id)
     }
 
     /// The client with this id.
     pub fn client(&self, id: ClientId) -> Option<&ClientTable>
         ensures { option_map (λ t. t.now) result ≡ client_at self.now.clients id.0 }
     {
-        find_client(&self.clients, id)
+        self.clients.iter().find(|table| table.id == id)
     }
 
     /// The ring with this id.
     pub fn ring(&self, id: RingId) -> Option<&RingTable>
         ensures { option_map (λ t. t.now) result ≡ ring_at self.now.rings id.0 }
     {
-        find_ring(&self.rings, id)
+        self.rings.iter().find(|table| table.id == id)
     }
 
     /// The partition with this id.
     pub fn partition(&self, id: PartitionId) -> Option<&PartitionTable>
         ensures { option_map (λ t. t.now) result ≡ partition_at self.now.partitions id.0 }
     {
-        find_partition(&self.partitions, id)
+        self.partitions.iter().find(|table| table.id == id)
     }
 
     /// All nodes by increasing id.
@@ -263,10 +266,10 @@ impl Deployment {
     pub fn copy(&self, alloc: Global) -> Result<Deployment, Memory>
         ensures { IfOk result (λ deployment. deployment ≡ self.now) }
     {
-        let nodes = copy_nodes(alloc, &self.nodes)?;
-        let clients = copy_clients(alloc, &self.clients)?;
+        let nodes = copy_tables(alloc, &self.nodes)?;
+        let clients = copy_tables(alloc, &self.clients)?;
         let rings = Vec::from_slice(alloc, &self.rings)?;
-        let partitions = copy_partitions(alloc, &self.partitions)?;
+        let partitions = copy_tables(alloc, &self.partitions)?;
         Ok(Deployment {
             numbers: self.numbers,
             nodes,
@@ -275,59 +278,6 @@ impl Deployment {
             partitions,
         })
     }
-}
-
-fn find_node(tables: &[NodeTable], id: NodeId) -> Option<&NodeTable>
-    ensures { option_map (λ t. t.now) result ≡ node_at tables.now id.0 }
-{
-    for table in tables {
-        if table.id.0 == id.0 {
-            return Some(table);
-        }
-    }
-    None
-}
-
-fn copy_nodes(alloc: Global, tables: &[NodeTable]) -> Result<Vec<NodeTable>, Memory>
-    ensures { IfOk result (λ v. v.items ≡ tables.now) }
-{
-    let mut copies = Vec::new(alloc);
-    for table in tables {
-        copies.push(table.copy(alloc)?)?;
-    }
-    Ok(copies)
-}
-
-fn find_client(tables: &[ClientTable], id: ClientId) -> Option<&ClientTable>
-    ensures { option_map (λ t. t.now) result ≡ client_at tables.now id.0 }
-{
-    for table in tables {
-        if table.id.0 == id.0 {
-            return Some(table);
-        }
-    }
-    None
-}
-
-fn copy_clients(alloc: Global, tables: &[ClientTable]) -> Result<Vec<ClientTable>, Memory>
-    ensures { IfOk result (λ v. v.items ≡ tables.now) }
-{
-    let mut copies = Vec::new(alloc);
-    for table in tables {
-        copies.push(table.copy(alloc)?)?;
-    }
-    Ok(copies)
-}
-
-fn find_ring(tables: &[RingTable], id: RingId) -> Option<&RingTable>
-    ensures { option_map (λ t. t.now) result ≡ ring_at tables.now id.0 }
-{
-    for table in tables {
-        if table.id.0 == id.0 {
-            return Some(table);
-        }
-    }
-    None
 }
 
 fn rounds_of(usual: u16, tables: &[RingTable]) -> RoundSizes
@@ -340,25 +290,4 @@ fn rounds_of(usual: u16, tables: &[RingTable]) -> RoundSizes
         sizes.set(tables[i].id, tables[i].m);
     }
     sizes
-}
-
-fn find_partition(tables: &[PartitionTable], id: PartitionId) -> Option<&PartitionTable>
-    ensures { option_map (λ t. t.now) result ≡ partition_at tables.now id.0 }
-{
-    for table in tables {
-        if table.id.0 == id.0 {
-            return Some(table);
-        }
-    }
-    None
-}
-
-fn copy_partitions(alloc: Global, tables: &[PartitionTable]) -> Result<Vec<PartitionTable>, Memory>
-    ensures { IfOk result (λ v. v.items ≡ tables.now) }
-{
-    let mut copies = Vec::new(alloc);
-    for table in tables {
-        copies.push(table.copy(alloc)?)?;
-    }
-    Ok(copies)
 }

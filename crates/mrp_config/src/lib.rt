@@ -2,22 +2,18 @@
 #![tactic(auto)]
 
 mod deployment;
-mod fault;
 mod laws;
 mod lists;
 mod routing;
 mod tables;
 mod walk;
 
+pub use config_walk::ConfigFault;
 pub use deployment::{Deployment, Numbers};
-pub use fault::ConfigFault;
 pub use laws::{
-    bits_name_what_is_concerned, keys_have_one_partition, rounds_are_in_range,
-    routes_are_common_rings, what_is_accepted_is_valid, what_is_valid_is_accepted,
+    first_tuples_are_tuples, keys_have_one_partition, rounds_are_in_range,
+    what_is_accepted_is_valid,
 };
-pub use lists::{LogIds, RingIds};
+pub use lists::{LogIds, RingIds, has_log, has_ring};
 pub use routing::NoGroup;
 pub use tables::{ClientTable, NodeTable, PartitionTable, RingTable};
-
-#[cfg(test)]
-mod tests;

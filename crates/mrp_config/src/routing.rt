@@ -1,11 +1,13 @@
 //! Which partitions a command concerns, and the ring that orders it.
 
-ghost use Rattle.std.specs.Prelude.{◌≡◌, ◌<◌, ◌∷◌, ◌&&◌, not, IsTrue};
+ghost use Rattle.std.specs.Prelude.{◌≡◌, ◌<◌, ◌∷◌, ◌&&◌, not};
 ghost use Rattle.std.specs.Option.{option_map};
-ghost use Rattle.mrp_config.specs.Config.{ids_rise, has_ring};
+ghost use Rattle.mrp_config.specs.Config.{has_ring as has_ring_lem};
+ghost use Rattle.mrp_config.specs.Valid.{IncreasesFrom, AreAtMost, partition_ids};
 ghost use Rattle.mrp_config.specs.Routing.{is_before, is_below, is_within, do_meet, has_some, is_concerned, concerned_of, first_concerned, mask_of, bit_of as bit_of_lem, all_have, common, route_of};
 
 use crate::PartitionTable;
+use crate::lists::{has_log, has_ring};
 use command_codec::Command;
 use mrp_types::{LogId, RingId};
 use std::cmp::Ordering;
@@ -41,12 +43,7 @@ fn meets(from: &[u8], to: &[u8], begin: &[u8], end: &[u8]) -> bool
 fn has_one_of(p: &PartitionTable, logs: &[LogId]) -> bool
     ensures { result ≡ has_some p.now.logs logs.now }
 {
-    for log in logs {
-        if p.logs.has(*log) {
-            return true;
-        }
-    }
-    false
+    logs.iter().any(|log| has_log(p.logs.items(), *log))
 }
 
 /// Whether the command concerns the partition.
@@ -56,10 +53,10 @@ pub fn concerns(command: &Command, p: &PartitionTable) -> bool
 {
     let (from, to) = (p.from.bytes(), p.to.bytes());
     match command {
-        Command::Append { log, value: _ } => p.logs.has(*log),
+        Command::Append { log, value: _ } => has_log(p.logs.items(), *log),
         Command::Multi { logs, value: _ } => has_one_of(p, logs.items()),
-        Command::ReadLog { log, position: _ } => p.logs.has(*log),
-        Command::TrimLog { log, position: _ } => p.logs.has(*log),
+        Command::ReadLog { log, position: _ } => has_log(p.logs.items(), *log),
+        Command::TrimLog { log, position: _ } => has_log(p.logs.items(), *log),
         Command::Get { key } => holds(from, to, key.bytes()),
         Command::Scan {
             from: begin,
@@ -78,7 +75,8 @@ pub fn concerns(command: &Command, p: &PartitionTable) -> bool
 
 /// A bit for each partition that the command concerns, by its id.
 pub fn mask_concerned(command: &Command, partitions: &[PartitionTable]) -> u16
-    requires { IsTrue (ids_rise 0 partitions.now) }
+    requires rise { IncreasesFrom 0 (partition_ids partitions.now) }
+    requires low { AreAtMost 15 (partition_ids partitions.now) }
     ensures { result ≡ mask_of command.now partitions.now }
 {
     let mut mask = 0;
@@ -161,7 +159,7 @@ fn all_subscribe(command: &Command, others: &[PartitionTable], ring: RingId) -> 
 }
 
 fn misses(command: &Command, p: &PartitionTable, ring: RingId) -> bool
-    ensures { result ≡ (is_concerned command.now p.now && not (has_ring p.now.rings ring.0)) }
+    ensures { result ≡ (is_concerned command.now p.now && not (has_ring_lem p.now.rings ring.0)) }
 {
-    concerns(command, p) && !p.rings.has(ring)
+    concerns(command, p) && !has_ring(p.rings.items(), ring)
 }

@@ -7,7 +7,7 @@ use mrp_types::{ClientId, Memory, NodeId, Octets, PartitionId, RingId, Seats};
 use std::alloc::Global;
 
 /// A node, and where its socket is.
-#[derive(Debug, Drop)]
+#[derive(Drop)]
 pub struct NodeTable {
     pub id: NodeId,
     /// A dotted IPv4 address, a colon and a port.
@@ -15,7 +15,7 @@ pub struct NodeTable {
 }
 
 /// A client, and where its socket is.
-#[derive(Debug, Drop)]
+#[derive(Drop)]
 pub struct ClientTable {
     pub id: ClientId,
     /// A dotted IPv4 address, a colon and a port.
@@ -23,7 +23,7 @@ pub struct ClientTable {
 }
 
 /// A ring, and its acceptors in order of their positions.
-#[derive(Clone, Copy, Debug)]
+#[derive(Clone, Copy)]
 pub struct RingTable {
     pub id: RingId,
     pub acceptors: Seats,
@@ -32,7 +32,7 @@ pub struct RingTable {
 }
 
 /// A partition: who replicates it, to which rings these subscribe, and which logs and keys it holds.
-#[derive(Debug, Drop)]
+#[derive(Drop)]
 pub struct PartitionTable {
     pub id: PartitionId,
     pub replicas: Seats,
@@ -52,11 +52,15 @@ pub struct PartitionTable {
     pub recovery_quorum: u8,
 }
 
-impl NodeTable {
+/// What can be copied where there is memory.
+pub trait CopyTable: Sized {
     /// An equal table.
-    pub fn copy(&self, alloc: Global) -> Result<Self, Memory>
-        ensures { IfOk result (λ table. table ≡ self.now) }
-    {
+    fn copy(&self, alloc: Global) -> Result<Self, Memory>
+        ensures { IfOk result (λ table. table ≡ self.now) };
+}
+
+impl CopyTable for NodeTable {
+    fn copy(&self, alloc: Global) -> Result<Self, Memory> {
         let address = Octets::from_slice(alloc, self.address.bytes())?;
         Ok(NodeTable {
             id: self.id,
@@ -65,11 +69,8 @@ impl NodeTable {
     }
 }
 
-impl ClientTable {
-    /// An equal table.
-    pub fn copy(&self, alloc: Global) -> Result<Self, Memory>
-        ensures { IfOk result (λ table. table ≡ self.now) }
-    {
+impl CopyTable for ClientTable {
+    fn copy(&self, alloc: Global) -> Result<Self, Memory> {
         let address = Octets::from_slice(alloc, self.address.bytes())?;
         Ok(ClientTable {
             id: self.id,
@@ -78,15 +79,12 @@ impl ClientTable {
     }
 }
 
-impl PartitionTable {
-    /// An equal table.
-    pub fn copy(&self, alloc: Global) -> Result<Self, Memory>
-        ensures { IfOk result (λ table. table ≡ self.now) }
-    {
-        let rings = self.rings.copy(alloc)?;
+impl CopyTable for PartitionTable {
+    fn copy(&self, alloc: Global) -> Result<Self, Memory> {
+        let rings = RingIds::from_slice(alloc, self.rings.items())?;
         let from = Octets::from_slice(alloc, self.from.bytes())?;
         let to = Octets::from_slice(alloc, self.to.bytes())?;
-        let logs = self.logs.copy(alloc)?;
+        let logs = LogIds::from_slice(alloc, self.logs.items())?;
         Ok(PartitionTable {
             id: self.id,
             replicas: self.replicas,
@@ -99,4 +97,15 @@ impl PartitionTable {
             recovery_quorum: self.recovery_quorum,
         })
     }
+}
+
+/// Equal tables.
+pub fn copy_tables<T: CopyTable + Drop>(alloc: Global, tables: &[T]) -> Result<Vec<T>, Memory>
+    ensures { IfOk result (λ v. v.items ≡ tables.now) }
+{
+    let mut copies = Vec::new(alloc);
+    for table in tables {
+        copies.push(table.copy(alloc)?)?;
+    }
+    Ok(copies)
 }

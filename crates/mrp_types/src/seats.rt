@@ -1,7 +1,7 @@
 //! Seats: up to seven nodes in the order of their positions.
 
-ghost use Rattle.std.specs.Prelude.{◌≡◌, ◌≤◌, ◌<◌, ◌++◌, ◌∷◌, [], length, slice_get, IfSome};
-ghost use Rattle.mrp_types.specs.Seats.{seat_of};
+ghost use Rattle.std.specs.Prelude.{◌≡◌, ◌≤◌, ◌<◌, length, slice_get, IfSome};
+ghost use Rattle.mrp_types.specs.Seats.{seat_of, numbers_of_nodes, AreDifferent};
 
 use crate::NodeId;
 use std::marker::Model;
@@ -9,7 +9,7 @@ use std::marker::Model;
 /// The most seats that a ring or a partition has.
 const MOST: usize = 7;
 
-/// Nodes in the order of their positions, at most seven. Contracts see the list of them.
+/// Different nodes in the order of their positions, at most seven. Contracts see the list of them.
 #[derive(Clone, Copy, Debug, PartialEq, Eq)]
 pub struct Seats {
     count: u8,
@@ -19,14 +19,14 @@ pub struct Seats {
 impl Model for Seats {
     ghost use Rattle.std.specs.Prelude.{List, ◌≤◌, ◌≡◌, take, length};
     ghost use Rattle.std.proofs.Common.{arith, length-take-le};
-    ghost use Rattle.mrp_types.specs.Seats.{padded};
+    ghost use Rattle.mrp_types.specs.Seats.{padded, numbers_of_nodes, AreDifferent};
     ghost use Rattle.mrp_types.specs.declared.id.NodeId.{NodeId};
 
     ghost Value = { List NodeId };
 
     ghost view = { λ s. take s.count s.nodes };
 
-    ghost invariant = { λ s. (s.count ≤ 7) × (length s.nodes ≡ 7) × (padded (take s.count s.nodes) ≡ s.nodes) };
+    ghost invariant = { λ s. (s.count ≤ 7) × (length s.nodes ≡ 7) × (padded (take s.count s.nodes) ≡ s.nodes) × AreDifferent (numbers_of_nodes (take s.count s.nodes)) };
 
     ghost inverse = { λ nodes. record { count = length nodes; nodes = padded nodes } };
 
@@ -37,34 +37,27 @@ impl Model for Seats {
 }
 
 impl Seats {
-    /// These nodes in order, at most seven.
+    /// These nodes in order, at most seven and no two the same.
     pub fn from_slice(nodes: &[NodeId]) -> Self
-        requires { length nodes.now ≤ 7 }
+        requires few { length nodes.now ≤ 7 }
+        requires different { AreDifferent (numbers_of_nodes nodes.now) }
         ensures { result ≡ nodes.now }
     {
-        let mut seats = Seats {
-            count: 0,
-            nodes: [NodeId(0); MOST],
-        };
-        for node in nodes {
-            seats.add(*node);
+        let mut seats = [NodeId(0); MOST];
+        for (index, node) in nodes.iter().enumerate() {
+            seats[index] = *node;
         }
-        seats
-    }
-
-    /// Puts a node behind the others.
-    fn add(&mut self, node: NodeId)
-        requires { length self.old < 7 }
-        ensures { self.new ≡ self.old ++ (node ∷ []) }
-    {
-        self.nodes[usize::from(self.count)] = node;
-        self.count += 1;
+        Seats {
+            count: nodes.len() as u8,
+            nodes: seats,
+        }
     }
 
     /// The nodes in order.
     pub fn items(&self) -> &[NodeId]
         ensures nodes { result.now ≡ self.now }
         ensures most { length result.now ≤ 7 }
+        ensures different { AreDifferent (numbers_of_nodes self.now) }
     {
         &self.nodes[..usize::from(self.count)]
     }
@@ -86,7 +79,7 @@ impl Seats {
         Some(self.nodes[usize::from(position)])
     }
 
-    /// The first position of a node, none where it isn't listed.
+    /// The position of a node, none where it isn't listed.
     pub fn position(&self, node: NodeId) -> Option<u8>
         ensures { result ≡ seat_of node self.now }
     {

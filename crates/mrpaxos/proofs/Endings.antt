@@ -12,8 +12,8 @@ use Rattle.outside.specs.Reading.{ReadsFront}
 use Rattle.outside.specs.declared.refused.Refused.TheVariants.{Failed, Memory as NoMemory}
 use Rattle.mrp_config.specs.Config.{Config as Deployed}
 use Rattle.mrp_config.specs.Walk.{read_of}
-use Rattle.mrp_config.specs.declared.fault.ConfigFault.{ConfigFault}
-use Rattle.mrp_config.specs.declared.fault.ConfigFault.TheVariants.{TooLong}
+use Rattle.config_walk.specs.declared.fault.ConfigFault.{ConfigFault}
+use Rattle.config_walk.specs.declared.fault.ConfigFault.TheVariants.{TooLong}
 use Rattle.mrp_config.specs.declared.tables.RingTable.{RingTable}
 use Rattle.schedule.specs.Reading.{schedule_of}
 use Rattle.schedule.proofs.ScheduleLaws.{schedule_read}

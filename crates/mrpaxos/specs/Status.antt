@@ -2,8 +2,8 @@
 use Rattle.std.specs.Prelude.{ℕ, List, [], ◌∷◌, ◌++◌, codes, Option, Some, None}
 use Rattle.std.specs.Fmt.{decimal}
 use Rattle.text_lines.specs.Text.{joined}
-use Rattle.mrp_config.specs.declared.fault.ConfigFault.{ConfigFault}
-use Rattle.mrp_config.specs.Faults.{fault_number, fault_name, fault_id}
+use Rattle.config_walk.specs.declared.fault.ConfigFault.{ConfigFault}
+use Rattle.config_walk.specs.Faults.{fault_number, fault_name, fault_id}
 use Rattle.schedule.specs.declared.fault.ScheduleFault.{ScheduleFault}
 use Rattle.schedule.specs.declared.fault.FaultKind.{FaultKind}
 use Rattle.schedule.specs.declared.fault.FaultKind.TheVariants as kind

@@ -4,8 +4,8 @@ use Rattle.std.specs.Io.KnownBytes.{Appends}
 use Rattle.outside.specs.Counts.{rise}
 use Rattle.mrp_config.specs.Config.{Config as Deployed}
 use Rattle.mrp_config.specs.Walk.{read_of}
-use Rattle.mrp_config.specs.declared.fault.ConfigFault.{ConfigFault}
-use Rattle.mrp_config.specs.declared.fault.ConfigFault.TheVariants.{NotBuilt}
+use Rattle.config_walk.specs.declared.fault.ConfigFault.{ConfigFault}
+use Rattle.config_walk.specs.declared.fault.ConfigFault.TheVariants.{NotBuilt}
 use Rattle.mrp_config.specs.declared.tables.RingTable.{RingTable}
 use Rattle.transcript.specs.Spelling.{lines_text}
 use Rattle.schedule.specs.declared.event.ScheduleEvent.{ScheduleEvent}

@@ -1,7 +1,7 @@
 -- The opening of a node: what it knows when its journal and its checkpoint were read.
 use Rattle.std.specs.Prelude.{List, [], ◌∷◌, Option, Some, None, if◌then◌else◌}
 use Rattle.mrp_types.specs.declared.id.NodeId.{NodeId}
-use Rattle.mrp_config.specs.Config.{Config, has_node}
+use Rattle.mrp_config.specs.Config.{Config, partition_of}
 use Rattle.mrp_config.specs.declared.tables.RingTable.{RingTable}
 use Rattle.mrp_config.specs.declared.tables.PartitionTable.{PartitionTable}
 use Rattle.vote_state.specs.State.{State, ring_at}
@@ -13,11 +13,6 @@ use Rattle.protocol.specs.Rings.{ring_of, is_member}
 use Rattle.protocol.specs.Learner.{new_part}
 use Rattle.protocol.specs.Node.{View, RingPart, Recovering, Stepped, begun_with, finished, StepSoFar}
 use Rattle.protocol.specs.Recovery.{begins}
-
--- the partition of which a node is a replica
-abbrev pub partition_of : List PartitionTable → NodeId → Option PartitionTable
-partition_of [] node = None
-partition_of (p ∷ partitions) node = if has_node p.replicas node.0 then Some p else partition_of partitions node
 
 -- a ring of which the node is a member, with what its journal keeps of it
 abbrev pub part_of_ring : State → Ring → RingPart

@@ -1,13 +1,12 @@
 -- A ring as one of its members sees it: who its acceptors and members are, who owns a ballot, and to whom frames go.
 use Rattle.std.specs.Prelude.{ℕ, ◌+◌, ◌/◌, ◌%◌, ◌^◌, ◌==◌, nat_lt, nat_le, not, ◌||◌, bit_and, bit_or, Bool, false, if◌then◌else◌, List, [], ◌∷◌, ◌++◌, length, filter, flat_map, Option, Some, None, slice_get}
 use Rattle.mrp_types.specs.declared.id.NodeId.{NodeId}
-use Rattle.mrp_types.specs.declared.id.RingId.{RingId}
 use Rattle.mrp_types.specs.declared.id.Party.TheVariants.{Node}
 use Rattle.mrp_types.specs.declared.id.TheConstants.{END}
 use Rattle.mrp_types.specs.Seats.{seat_of}
 use Rattle.mrp_config.specs.declared.tables.RingTable.{RingTable}
 use Rattle.mrp_config.specs.declared.tables.PartitionTable.{PartitionTable}
-use Rattle.mrp_config.specs.Config.{Config, has_ring, has_node}
+use Rattle.mrp_config.specs.Config.{Config, has_node, subscribers_of}
 use Rattle.ring_link.specs.Silence.{Link, is_silent, successor_by}
 use Rattle.frames.specs.declared.body.Body.{Body}
 use Rattle.frames.specs.declared.body.Body.TheVariants.{Fetch}
@@ -15,10 +14,6 @@ use Rattle.frames.specs.declared.sent.Sent.{Sent}
 use Rattle.protocol.specs.Parts.{Ring}
 
 -- ---- who is in a ring
-
--- the partitions that subscribe to a ring, in order
-abbrev pub subscribers_of : List PartitionTable → RingId → List PartitionTable
-subscribers_of partitions ring = filter (λ (p : PartitionTable). has_ring p.rings ring.0) partitions
 
 -- the replicas of some partitions
 abbrev pub replicas_of : List PartitionTable → List NodeId

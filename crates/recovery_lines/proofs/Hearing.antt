@@ -7,7 +7,7 @@ use Rattle.std.proofs.lemmas.Bool.Decides.{nat_tests}
 use Rattle.mrp_types.specs.declared.id.NodeId.{NodeId}
 use Rattle.mrp_types.specs.declared.id.RingId.{RingId}
 use Rattle.mrp_types.specs.declared.id.TheConstants.{END}
-use Rattle.mrp_config.specs.Config.{Config, has_node, has_ring}
+use Rattle.mrp_config.specs.Config.{Config, has_node, has_ring, subscribers_of}
 use Rattle.mrp_config.specs.declared.tables.PartitionTable.{PartitionTable}
 use Rattle.quorums.specs.Groups.{Has}
 use Rattle.frames.specs.declared.body.Body.{Body}
@@ -20,7 +20,7 @@ use Rattle.plain_model.specs.StateBytes.{state_of}
 use Rattle.plain_model.specs.Tuples.{round_sizes, is_tuple_of, has_rings, entry_at, instances}
 use Rattle.plain_model.proofs.TupleOrder.{split_and}
 use Rattle.protocol.specs.Lines.{Line, Begin}
-use Rattle.protocol.specs.Rings.{sends_to, subscribers_of}
+use Rattle.protocol.specs.Rings.{sends_to}
 use Rattle.protocol.specs.Trimming.{has_answered}
 use Rattle.protocol.specs.Node.{StepSoFar, Service, Recovering, Attempt, Choice, with_stage, sends_all}
 use Rattle.protocol.specs.Recovery.{epoch_of, own_tuple, tuple_of_newest, is_of, takes_answer, answered_by, is_of_choice, restores_or_begins, part_for, takes_part, gone_for, takes_gone, tells_checkpoint, answer_part, tells_part, safe_in, safe_of, asks_part}

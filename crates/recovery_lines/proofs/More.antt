@@ -6,7 +6,7 @@ use Rattle.mrp_types.specs.declared.id.RingId.{RingId}
 use Rattle.mrp_types.specs.declared.id.Party.{Party}
 use Rattle.mrp_types.specs.declared.id.Party.TheVariants.{Node, Client}
 use Rattle.mrp_types.specs.declared.value.Value.TheVariants.{Skip}
-use Rattle.mrp_config.specs.Config.{Config}
+use Rattle.mrp_config.specs.Config.{Config, subscribers_of}
 use Rattle.mrp_config.specs.declared.tables.PartitionTable.{PartitionTable}
 use Rattle.frames.specs.declared.body.Body.{Body}
 use Rattle.frames.specs.declared.body.Body.TheVariants.{AskCheckpoint, HaveCheckpoint, AskPart, Part as PartFrame, Gone, Safe, Promise, Trimmed, TrimTo}
@@ -14,7 +14,6 @@ use Rattle.frames.specs.declared.sent.Sent.{Sent}
 use Rattle.quorums.specs.Groups.{Has}
 use Rattle.checkpoint.specs.Checkpoints.{Checkpoint}
 use Rattle.protocol.specs.Lines.{Line}
-use Rattle.protocol.specs.Rings.{subscribers_of}
 use Rattle.protocol.specs.Parts.{Round}
 use Rattle.protocol.specs.Node.{RingPart, Service, Stage, Recovering, Ready, Choice}
 use Rattle.plain_model.specs.Tuples.{round_sizes, instances}

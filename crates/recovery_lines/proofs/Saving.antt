@@ -4,7 +4,7 @@ use Rattle.std.specs.Prelude.{nat_lt, nat_le, ◌^◌, ◌-◌, if◌then◌else
 use Rattle.std.proofs.lemmas.Bool.Decides.{nat_tests}
 use Rattle.mrp_types.specs.declared.id.NodeId.{NodeId}
 use Rattle.mrp_types.specs.declared.id.RingId.{RingId}
-use Rattle.mrp_config.specs.Config.{Config}
+use Rattle.mrp_config.specs.Config.{Config, partition_of}
 use Rattle.mrp_config.specs.declared.tables.PartitionTable.{PartitionTable}
 use Rattle.quorums.specs.Groups.{Has}
 use Rattle.checkpoint.specs.Checkpoints.{Checkpoint}
@@ -12,7 +12,6 @@ use Rattle.plain_model.specs.StateBytes.{state_bytes}
 use Rattle.plain_model.specs.Tuples.{round_sizes, instances}
 use Rattle.plain_model.proofs.TupleOrder.{split_and}
 use Rattle.protocol.specs.Lines.{Line, Cause, Saved, Down, Up}
-use Rattle.protocol.specs.Opening.{partition_of}
 use Rattle.protocol.specs.Node.{View, Service, Stage, Recovering, Ready, Standing, Stepped}
 use Rattle.protocol.specs.Recovery.{epoch_of}
 use Rattle.protocol.specs.Tick.{saves, is_due_to_save, saves_stage, saves_first}

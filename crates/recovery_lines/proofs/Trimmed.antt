@@ -5,13 +5,12 @@ use Rattle.std.specs.Prelude.{length, count_by}
 use Rattle.std.specs.List.{AllByRecursion}
 use Rattle.mrp_types.specs.declared.id.NodeId.{NodeId}
 use Rattle.mrp_types.specs.declared.id.RingId.{RingId}
-use Rattle.mrp_config.specs.Config.{Config, has_node, has_ring}
+use Rattle.mrp_config.specs.Config.{Config, has_node, has_ring, subscribers_of}
 use Rattle.mrp_config.specs.declared.tables.PartitionTable.{PartitionTable}
 use Rattle.quorums.specs.Groups.{Has}
 use Rattle.checkpoint.specs.Checkpoints.{Checkpoint}
 use Rattle.plain_model.specs.Tuples.{instances}
 use Rattle.protocol.specs.Lines.{Line, Trim}
-use Rattle.protocol.specs.Rings.{subscribers_of}
 use Rattle.protocol.specs.Trimming.{has_answered}
 use Rattle.faithful.specs.Scanners.{told, entry_of, Reaches, some_reaches, tuples_told}
 use Rattle.faithful.specs.Rules.{IsReached, HaveTold, AllHaveTold, IsFaithfulLine, AreFaithful}

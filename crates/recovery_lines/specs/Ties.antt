@@ -6,7 +6,7 @@ use Rattle.mrp_types.specs.declared.id.RingId.{RingId}
 use Rattle.mrp_types.specs.declared.id.Party.{Party}
 use Rattle.mrp_types.specs.declared.id.Party.TheVariants.{Node}
 use Rattle.mrp_types.specs.declared.value.Value.{Value}
-use Rattle.mrp_config.specs.Config.{Config, has_node, has_ring}
+use Rattle.mrp_config.specs.Config.{Config, has_node, has_ring, partition_of, subscribers_of}
 use Rattle.mrp_config.specs.declared.tables.PartitionTable.{PartitionTable}
 use Rattle.frames.specs.declared.body.Body.{Body}
 use Rattle.frames.specs.declared.body.Body.TheVariants.{Promise, Trimmed, TrimTo, AskCheckpoint, HaveCheckpoint, AskPart, Part as PartFrame, Gone, Safe}
@@ -18,8 +18,6 @@ use Rattle.checkpoint.specs.Checkpoints.{Checkpoint}
 use Rattle.plain_model.specs.Tuples.{round_sizes, is_tuple_of, instances}
 use Rattle.protocol.specs.Lines.{Line, Chose}
 use Rattle.protocol.specs.Parts.{Ring, Round}
-use Rattle.protocol.specs.Opening.{partition_of}
-use Rattle.protocol.specs.Rings.{subscribers_of}
 use Rattle.protocol.specs.Learner.{value_in}
 use Rattle.protocol.specs.Recovery.{tuple_of_newest}
 use Rattle.protocol.specs.Node.{RingPart, Stage, Recovering, Ready, Choice, Service, StepSoFar, View, Stepped}

@@ -10,7 +10,7 @@ ghost use Rattle.std.specs.Prelude.{◌≡◌, ◌≤◌, ℕ, ◌+◌, Bool, Li
 ghost use Rattle.std.specs.List.{AllByRecursion};
 ghost use Rattle.mrp_types.specs.declared.id.NodeId.{NodeId};
 ghost use Rattle.mrp_types.specs.declared.id.RingId.{RingId};
-ghost use Rattle.mrp_config.specs.Config.{Config};
+ghost use Rattle.mrp_config.specs.Config.{Config, partition_of};
 ghost use Rattle.mrp_config.specs.declared.tables.PartitionTable.{PartitionTable};
 ghost use Rattle.checkpoint.specs.Checkpoints.{Checkpoint};
 ghost use Rattle.quorums.specs.Groups.{Has};
@@ -18,7 +18,6 @@ ghost use Rattle.plain_model.specs.Tuples.{instances};
 ghost use Rattle.protocol.specs.Lines.{Cause, Down, Line, Up};
 ghost use Rattle.protocol.specs.Merging.{merges};
 ghost use Rattle.protocol.specs.Node.{StepSoFar, Attempt, Recovering, Service, Stepped, View};
-ghost use Rattle.protocol.specs.Opening.{partition_of};
 ghost use Rattle.protocol.specs.Recovery.{answered_by, begins, epoch_of, recovery_ticks, takes_gone, takes_part, tells_checkpoint, tells_part};
 ghost use Rattle.protocol.specs.Step.{recovers_if_trimmed};
 ghost use Rattle.protocol.specs.Tick.{saves_first};

@@ -4,7 +4,7 @@ use Rattle.std.specs.Prelude.{◌==◌, if◌then◌else◌}
 use Rattle.std.proofs.lemmas.Bool.Decides.{nat_tests}
 use Rattle.mrp_types.specs.declared.id.NodeId.{NodeId}
 use Rattle.mrp_types.specs.declared.value.Value.{Value}
-use Rattle.mrp_config.specs.Config.{Config}
+use Rattle.mrp_config.specs.Config.{Config, partition_of}
 use Rattle.mrp_config.specs.declared.tables.RingTable.{RingTable}
 use Rattle.mrp_config.specs.declared.tables.PartitionTable.{PartitionTable}
 use Rattle.vote_state.specs.State.{State, ring_at}
@@ -14,7 +14,7 @@ use Rattle.ring_reach.proofs.Reaching.{reach_none}
 use Rattle.protocol.specs.Parts.{Ring}
 use Rattle.protocol.specs.Rings.{ring_of, is_member}
 use Rattle.protocol.specs.Node.{StepSoFar, RingPart, Recovering, begun_with, part_in}
-use Rattle.protocol.specs.Opening.{partition_of, part_of_ring, parts_of, view_of, begins_first, opened}
+use Rattle.protocol.specs.Opening.{part_of_ring, parts_of, view_of, begins_first, opened}
 use Rattle.beside_rings.specs.Beside.{Untouched}
 use Rattle.beside_rings.proofs.Following.{Untouched-refl}
 use Rattle.beside_rings.proofs.Recovered.{untouched_begins}

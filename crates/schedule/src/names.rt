@@ -4,7 +4,7 @@ ghost use Rattle.std.specs.Prelude.{◌≡◌, IfOk};
 ghost use Rattle.schedule.specs.Generating.{names_of, named_below, is_held, client_named, node_named, log_named, xth as xth_lem};
 ghost use Rattle.schedule.specs.Fields.{is_client, is_node};
 
-use mrp_config::{Deployment, PartitionTable};
+use mrp_config::{Deployment, PartitionTable, has_log};
 use mrp_types::{ClientId, Items, LogId, Memory, NodeId};
 use std::alloc::Global;
 
@@ -111,7 +111,7 @@ fn has_holder(partitions: &[PartitionTable], log: LogId) -> bool
     ensures { result ≡ is_held partitions.now log.0 }
 {
     for p in partitions {
-        if p.logs.has(log) {
+        if has_log(p.logs.items(), log) {
             return true;
         }
     }

@@ -8,7 +8,7 @@ use Rattle.mrp_types.specs.declared.id.NodeId.{NodeId}
 use Rattle.mrp_types.specs.declared.id.RingId.{RingId}
 use Rattle.mrp_types.specs.declared.value.Value.{Value}
 use Rattle.mrp_types.specs.declared.voted.Decided.{Decided}
-use Rattle.mrp_config.specs.Config.{Config}
+use Rattle.mrp_config.specs.Config.{Config, subscribers_of}
 use Rattle.mrp_config.specs.declared.tables.PartitionTable.{PartitionTable}
 use Rattle.frames.specs.declared.sent.Sent.{Sent}
 use Rattle.checkpoint.specs.Checkpoints.{Checkpoint}
@@ -20,7 +20,6 @@ use Rattle.range_map.specs.Entries.{value_at, IsIncreasingFrom}
 use Rattle.range_map.proofs.EntryLemmas.{value_at-entries_from, increasing_entries_from}
 use Rattle.protocol.specs.Lines.{Line, Learn, Trim, BallotLimit, InstanceLimit}
 use Rattle.protocol.specs.Parts.{Ring, Part, Effects, Learner}
-use Rattle.protocol.specs.Rings.{subscribers_of}
 use Rattle.protocol.specs.Learner.{value_in, with_base}
 use Rattle.protocol.specs.Recovery.{epoch_of}
 use Rattle.protocol.specs.Bases.{rebased, rebases}

@@ -4,7 +4,7 @@ use Rattle.mrp_types.specs.declared.id.NodeId.{NodeId}
 use Rattle.std.proofs.Common.{◌≡◌, ℕ, List, [], ◌∷◌, Option, Some, None, refl, sym, ◌∙◌, ap, subst}
 use Rattle.std.specs.Prelude.{map}
 use Rattle.std.specs.List.{AllByRecursion}
-use Rattle.mrp_config.specs.Config.{Config}
+use Rattle.mrp_config.specs.Config.{Config, partition_of}
 use Rattle.mrp_config.specs.declared.tables.PartitionTable.{PartitionTable}
 use Rattle.checkpoint.specs.Checkpoints.{Checkpoint, Checkpoints}
 use Rattle.vote_state.specs.declared.change.Change.{Change}
@@ -12,7 +12,6 @@ use Rattle.vote_state.specs.State.{State, taken}
 use Rattle.vote_journal.specs.Journal.{Journal, recorded}
 use Rattle.protocol.specs.Bases.{rebased, rebases}
 use Rattle.protocol.specs.Lines.{Line}
-use Rattle.protocol.specs.Opening.{partition_of}
 use Rattle.protocol.specs.Parts.{Ring}
 use Rattle.protocol.specs.Node.{StepSoFar, RingPart, Service, finished}
 use Rattle.faithful.specs.Scanners.{past}

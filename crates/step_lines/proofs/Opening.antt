@@ -7,7 +7,7 @@ use Rattle.std.specs.Prelude.{◌==◌, if◌then◌else◌}
 use Rattle.std.specs.List.{AllByRecursion}
 use Rattle.mrp_types.specs.declared.id.NodeId.{NodeId}
 use Rattle.mrp_types.specs.declared.value.Value.{Value}
-use Rattle.mrp_config.specs.Config.{Config, ring_at}
+use Rattle.mrp_config.specs.Config.{Config, ring_at, partition_of}
 use Rattle.mrp_config.specs.declared.tables.RingTable.{RingTable}
 use Rattle.mrp_config.specs.declared.tables.PartitionTable.{PartitionTable}
 use Rattle.vote_state.specs.State.{State}
@@ -15,7 +15,7 @@ use Rattle.vote_journal.specs.Journal.{Journal}
 use Rattle.checkpoint.specs.Checkpoints.{Checkpoints}
 use Rattle.protocol.specs.Lines.{Line, Up}
 use Rattle.protocol.specs.Rings.{ring_of, is_member}
-use Rattle.protocol.specs.Opening.{partition_of, part_of_ring, parts_of, view_of, begins_first, opened}
+use Rattle.protocol.specs.Opening.{part_of_ring, parts_of, view_of, begins_first, opened}
 use Rattle.protocol.specs.Node.{StepSoFar, Service, Recovering, begun_with, finished}
 use Rattle.protocol.specs.Recovery.{begins}
 use Rattle.recovery_lines.specs.Ties.{IsFit, IsPlaced, AreRight, AreCovered, PartTold, PartLines, KnownLines, KeptLines, OwnLines, DoneLines, AfterLines, StepLines, rings_in}

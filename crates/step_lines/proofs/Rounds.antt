@@ -7,7 +7,7 @@ use Rattle.std.specs.List.{AllByRecursion}
 use Rattle.std.proofs.lemmas.Bool.Decides.{nat_tests}
 use Rattle.mrp_types.specs.declared.id.NodeId.{NodeId}
 use Rattle.mrp_types.specs.declared.id.RingId.{RingId}
-use Rattle.mrp_config.specs.Config.{Config, has_node}
+use Rattle.mrp_config.specs.Config.{Config, has_node, subscribers_of}
 use Rattle.mrp_config.specs.declared.tables.PartitionTable.{PartitionTable}
 use Rattle.quorums.specs.Groups.{Has}
 use Rattle.ring_link.specs.Silence.{Link}
@@ -15,7 +15,7 @@ use Rattle.frames.specs.declared.body.Body.TheVariants.{AskSafe, TrimTo}
 use Rattle.plain_model.proofs.TupleOrder.{split_and}
 use Rattle.protocol.specs.Lines.{Line, Trim}
 use Rattle.protocol.specs.Parts.{Ring, Round, Part, Effects}
-use Rattle.protocol.specs.Rings.{sends_each, subscribers_of, other_acceptors, replicas_of, by_id, is_subscribed}
+use Rattle.protocol.specs.Rings.{sends_each, other_acceptors, replicas_of, by_id, is_subscribed}
 use Rattle.protocol.specs.Effects.{no_effects, with_part, with_frames, with_line}
 use Rattle.protocol.specs.Acceptor.{trims_to}
 use Rattle.protocol.specs.Trimming.{has_answered, answered_of, have_quorums, least_of, least_above_last, least_where, is_answered, least, with_answer, in_round, trims_all, trims_above, ends_by, goes_on_round, with_own_answer, next_round, with_asked, asks, answers_in, answers, asks_round, with_current}

@@ -27,13 +27,12 @@ use Rattle.protocol.specs.Parts.{Effects, Part, Ring}
 use Rattle.std.proofs.Common.{◌≡◌, ℕ, ◌⊎◌, Bool, true, false, List, [], ◌∷◌, Option, Some, None, refl, sym, ◌∙◌, ap, subst}
 use Rattle.std.specs.Prelude.{◌==◌, ◌%◌, ◌/◌, ◌&&◌, if◌then◌else◌, filter}
 use Rattle.std.specs.List.{AllByRecursion, flat_map}
-use Rattle.mrp_config.specs.Config.{Config, has_ring}
+use Rattle.mrp_config.specs.Config.{Config, has_ring, partition_of}
 use Rattle.mrp_config.specs.declared.tables.PartitionTable.{PartitionTable}
 use Rattle.mrp_config.specs.declared.tables.NodeTable.{NodeTable}
 use Rattle.checkpoint.specs.Checkpoints.{Checkpoint, Checkpoints}
 use Rattle.frames.specs.declared.body.Body.TheVariants.{Fetch, Hello}
 use Rattle.protocol.specs.Lines.{Line}
-use Rattle.protocol.specs.Opening.{partition_of}
 use Rattle.protocol.specs.Tick.{rules_at, rules_for, ticks_ring, ticks_rings, turn_of, fetches_at, fetches_stage, fetches_missing, shares_ring, recovery_ticks_at, asks_on_beat, beats_with}
 use Rattle.protocol.specs.Node.{StepSoFar, View, RingPart, Service, Stage, Recovering, Ready, part_at, sends_all}
 use Rattle.recovery_lines.specs.Ties.{IsFit, IsPlaced, IsSafe, IsSaid, ReplicaLines, ActLines, AfterLines, newest_of, rings_in}

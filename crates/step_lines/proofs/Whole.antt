@@ -14,12 +14,11 @@ use Rattle.mrp_types.specs.declared.id.Party.TheVariants.{Client, Node}
 use Rattle.std.proofs.Common.{◌≡◌, ℕ, ◌+◌, Bool, true, false, List, Option, Some, None, refl, sym, ◌∙◌, subst}
 use Rattle.std.specs.Prelude.{◌==◌, ◌%◌, if◌then◌else◌}
 use Rattle.std.specs.List.{AllByRecursion}
-use Rattle.mrp_config.specs.Config.{Config}
+use Rattle.mrp_config.specs.Config.{Config, partition_of}
 use Rattle.mrp_config.specs.declared.tables.PartitionTable.{PartitionTable}
 use Rattle.frames.specs.declared.body.Body.{Body}
 use Rattle.frames.specs.declared.body.Body.TheVariants.{Submit}
 use Rattle.protocol.specs.Lines.{Line}
-use Rattle.protocol.specs.Opening.{partition_of}
 use Rattle.step_lines.proofs.Ticks.{OwnTold}
 use Rattle.protocol.specs.Node.{StepSoFar, View, Service, Stage, Recovering, Ready, Standing, Event, Ticks, Takes, Leads, Stepped, begun_with, finished}
 use Rattle.protocol.specs.Step.{handles_from, step}

@@ -5,13 +5,12 @@ use Rattle.mrp_types.specs.declared.id.NodeId.{NodeId}
 use Rattle.mrp_types.specs.declared.id.Party.TheVariants.{Node}
 use Rattle.mrp_types.specs.declared.id.RingId.{RingId}
 use Rattle.mrp_types.specs.declared.value.Value.{Value}
-use Rattle.mrp_config.specs.Config.{Config}
+use Rattle.mrp_config.specs.Config.{Config, partition_of}
 use Rattle.mrp_config.specs.declared.tables.PartitionTable.{PartitionTable}
 use Rattle.checkpoint.specs.Checkpoints.{Checkpoint}
 use Rattle.vote_state.specs.State.{State, taken}
 use Rattle.protocol.specs.Lines.{Line, Learn, Trim, BallotLimit, InstanceLimit}
 use Rattle.protocol.specs.Parts.{Ring, Effects}
-use Rattle.protocol.specs.Opening.{partition_of}
 use Rattle.protocol.specs.Node.{StepSoFar, Event, Ticks, Takes, Leads, Stepped}
 use Rattle.faithful.specs.Scanners.{past, book}
 use Rattle.faithful.specs.Rules.{Trims}

@@ -8,12 +8,12 @@
 ghost use Rattle.std.specs.Prelude.{◌≡◌, ◌+◌, ℕ, List, ◌∷◌};
 ghost use Rattle.std.specs.List.{AllByRecursion};
 ghost use Rattle.mrp_types.specs.declared.id.NodeId.{NodeId};
-ghost use Rattle.mrp_config.specs.Config.{Config};
+ghost use Rattle.mrp_config.specs.Config.{Config, partition_of};
 ghost use Rattle.checkpoint.specs.Checkpoints.{Checkpoints};
 ghost use Rattle.vote_journal.specs.Journal.{Journal};
 ghost use Rattle.protocol.specs.Lines.{Line, Up};
 ghost use Rattle.protocol.specs.Node.{Event, View};
-ghost use Rattle.protocol.specs.Opening.{opened, partition_of, parts_of};
+ghost use Rattle.protocol.specs.Opening.{opened, parts_of};
 ghost use Rattle.protocol.specs.Step.{step};
 ghost use Rattle.faithful.specs.Scanners.{past};
 ghost use Rattle.recovery_lines.specs.Ties.{AreCovered, AreRight, IsFit, IsPlaced, KnownLines, PartTold, StepLines, ViewLines, rings_in};

@@ -3,7 +3,7 @@ use Rattle.std.proofs.Common.{◌≡◌, inl, inr, Bool, true, false, List, [], 
 use Rattle.std.specs.Prelude.{◌+◌, ◌%◌, ◌==◌, if◌then◌else◌}
 use Rattle.std.specs.List.{AllByRecursion}
 use Rattle.mrp_types.specs.declared.id.NodeId.{NodeId}
-use Rattle.mrp_config.specs.Config.{Config}
+use Rattle.mrp_config.specs.Config.{Config, partition_of}
 use Rattle.mrp_config.specs.declared.tables.RingTable.{RingTable}
 use Rattle.mrp_config.specs.declared.tables.PartitionTable.{PartitionTable}
 use Rattle.quorums.specs.Groups.{Has}
@@ -25,7 +25,7 @@ use Rattle.protocol.specs.Bases.{rebased, rebases}
 use Rattle.protocol.specs.Learning.{applies_effects}
 use Rattle.protocol.specs.Step.{at_acceptor, handles_from, step}
 use Rattle.protocol.specs.Tick.{saves, is_due_to_save, saves_stage, saves_first, is_due_to_compact, compacts, beats, or_compacts, ticks}
-use Rattle.protocol.specs.Opening.{partition_of, part_of_ring, parts_of, view_of, begins_first, opened}
+use Rattle.protocol.specs.Opening.{part_of_ring, parts_of, view_of, begins_first, opened}
 use Rattle.range_map.proofs.EntryLemmas.{increasing_entries_from}
 use Rattle.step_valid.specs.Valid.{SentValid, IsLearned, MemberValid, ViewValid, AreNumbered, EventValid, StepValid}
 use Rattle.step_valid.proofs.Going.{SoFarValid, untouched_valid}

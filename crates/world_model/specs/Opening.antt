@@ -15,14 +15,13 @@ use Rattle.vote_state.specs.State.{State}
 use Rattle.vote_journal.specs.declared.fault.OpenFault.{OpenFault}
 use Rattle.vote_journal.specs.Journal.{Journal, state_of, opened_state, epoch_record}
 use Rattle.command_codec.specs.declared.fault.CodecFault.{CodecFault}
-use Rattle.mrp_config.specs.Config.{Config}
+use Rattle.mrp_config.specs.Config.{Config, partition_of}
 use Rattle.mrp_config.specs.declared.tables.PartitionTable.{PartitionTable}
 use Rattle.plain_model.specs.Replicas.{Replica}
 use Rattle.plain_model.specs.StateBytes.{whole_state, fault_position}
 use Rattle.plain_model.specs.Tuples.{round_sizes, is_tuple_of}
 use Rattle.checkpoint.specs.Checkpoints.{Checkpoints, Checkpoint, checkpoints_of, place}
 use Rattle.protocol.specs.Lines.{Cause, Disk, Full}
-use Rattle.protocol.specs.Opening.{partition_of}
 use Rattle.world_model.specs.Disks.{Op, Reads, Does}
 
 -- the device calls of an opening in order, and what they find, or why the node stops where all of them passed

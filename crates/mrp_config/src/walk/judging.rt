@@ -2,10 +2,12 @@
 
 ghost use Rattle.std.specs.Prelude.{◌≡◌, ◌&&◌, []};
 ghost use Rattle.std.specs.Str.{bytes_eq};
-ghost use Rattle.mrp_config.specs.Config.{has_log as has_log_lem};
-ghost use Rattle.mrp_config.specs.Walk.{Says, has_quorums as has_quorums_lem, quorums_meet, ends_well as ends_well_lem, ranges_follow, first_taken, logs_once, judged};
+ghost use Rattle.config_walk.specs.Values.{Says};
+ghost use Rattle.mrp_config.specs.Walk.{has_quorums as has_quorums_lem, quorums_meet, ends_well as ends_well_lem, ranges_follow, first_taken, logs_once, judged};
 
-use crate::{ConfigFault, PartitionTable};
+use crate::PartitionTable;
+use crate::lists::has_log;
+use config_walk::ConfigFault;
 use mrp_types::LogId;
 use std::alloc::Global;
 use std::cmp::Ordering;
@@ -57,17 +59,6 @@ fn judge_ranges(partitions: &[PartitionTable]) -> Result<(), ConfigFault>
         start = p.to.bytes();
     }
     Ok(())
-}
-
-fn has_log(logs: &[LogId], log: LogId) -> bool
-    ensures { result ≡ has_log_lem logs.now log.0 }
-{
-    for other in logs {
-        if other.0 == log.0 {
-            return true;
-        }
-    }
-    false
 }
 
 fn judge_taken(taken: &[LogId], logs: &[LogId]) -> Result<(), ConfigFault>

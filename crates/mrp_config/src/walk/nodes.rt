@@ -1,27 +1,25 @@
 //! The tables of nodes, clients and rings.
 
-ghost use Rattle.std.specs.Prelude.{◌≡◌, ◌≤◌, IfOk, map};
-ghost use Rattle.std.specs.Option.{option_map};
-ghost use Rattle.toml.specs.View.{view, table_view};
-ghost use Rattle.mrp_config.specs.Walk.{Says, node_of, nodes_of, top_nodes, client_of, clients_of, top_clients, acceptors_of, size_of, ring_of, rings_of, top_rings};
+ghost use Rattle.std.specs.Prelude.{codes, map};
+ghost use Rattle.toml.specs.Data.{get_member};
+ghost use Rattle.toml.specs.View.{table_view};
+ghost use Rattle.config_walk.specs.Values.{Says};
+ghost use Rattle.mrp_config.specs.Walk.{node_of, nodes_of, top_nodes, client_of, clients_of, top_clients, size_of, ring_of, rings_of, top_rings};
 
-use super::address::read_address;
-use super::names::judge_names;
-use super::numbers::{read_id, read_number};
-use super::seats::read_seats;
-use super::tables::read_tables;
-use super::values::value_at;
-use crate::{ClientTable, ConfigFault, NodeTable, RingTable};
-use mrp_types::{ClientId, NodeId, RingId, Seats};
+use crate::{ClientTable, NodeTable, RingTable};
+use config_walk::{
+    ConfigFault, judge_names, read_address, read_id, read_number, read_seats, read_tables, value_at,
+};
+use mrp_types::{ClientId, NodeId, RingId};
 use std::alloc::Global;
-use toml::{Table, Value};
+use toml::Table;
 
 #[tactic(auto, unfolding(crate::specs::Walk::node_of))]
 fn read_node(alloc: Global, least: u64, table: &Table) -> Result<NodeTable, ConfigFault>
     ensures { Says (λ n. n) (node_of least (table_view table.now)) result }
 {
-    let id = read_id(alloc, "node.id", 31, least, value_at(table, "id"))?;
-    let address = read_address(alloc, "node.address", value_at(table, "address"))?;
+    let id = read_id(alloc, table, "id", "node.id", 31, least)?;
+    let address = read_address(alloc, table, "address", "node.address")?;
     judge_names(alloc, "node.", &["id", "address"], table)?;
     Ok(NodeTable {
         id: NodeId(id),
@@ -46,7 +44,7 @@ fn each_node(alloc: Global, tables: &[&Table]) -> Result<Vec<NodeTable>, ConfigF
 pub fn read_nodes(alloc: Global, table: &Table) -> Result<Vec<NodeTable>, ConfigFault>
     ensures { Says (λ v. v.items) (top_nodes (table_view table.now)) result }
 {
-    let tables = read_tables(alloc, "node", 1, 32, value_at(table, "node"))?;
+    let tables = read_tables(alloc, table, "node", "node", 1, 32)?;
     each_node(alloc, &tables)
 }
 
@@ -54,8 +52,8 @@ pub fn read_nodes(alloc: Global, table: &Table) -> Result<Vec<NodeTable>, Config
 fn read_client(alloc: Global, least: u64, table: &Table) -> Result<ClientTable, ConfigFault>
     ensures { Says (λ c. c) (client_of least (table_view table.now)) result }
 {
-    let id = read_id(alloc, "client.id", 255, least, value_at(table, "id"))?;
-    let address = read_address(alloc, "client.address", value_at(table, "address"))?;
+    let id = read_id(alloc, table, "id", "client.id", 255, least)?;
+    let address = read_address(alloc, table, "address", "client.address")?;
     judge_names(alloc, "client.", &["id", "address"], table)?;
     Ok(ClientTable {
         id: ClientId(id),
@@ -80,26 +78,18 @@ fn each_client(alloc: Global, tables: &[&Table]) -> Result<Vec<ClientTable>, Con
 pub fn read_clients(alloc: Global, table: &Table) -> Result<Vec<ClientTable>, ConfigFault>
     ensures { Says (λ v. v.items) (top_clients (table_view table.now)) result }
 {
-    let tables = read_tables(alloc, "client", 0, 256, value_at(table, "client"))?;
+    let tables = read_tables(alloc, table, "client", "client", 0, 256)?;
     each_client(alloc, &tables)
 }
 
-#[tactic(auto, unfolding(crate::specs::Walk::acceptors_of))]
-fn read_acceptors(alloc: Global, nodes: &[u8], table: &Table) -> Result<Seats, ConfigFault>
-    ensures { Says (λ s. s) (acceptors_of nodes.now (table_view table.now)) result }
-{
-    let found = value_at(table, "acceptors");
-    read_seats(alloc, "ring.acceptors", &[], nodes, found)
-}
-
 // The size of a ring's round, the usual one where the key is missing.
-fn read_size(alloc: Global, usual: u16, found: Option<&Value>) -> Result<u16, ConfigFault>
-    ensures { Says (λ n. n) (size_of usual (option_map (λ v. view v.now) found.entry)) result }
+fn read_size(alloc: Global, usual: u16, table: &Table) -> Result<u16, ConfigFault>
+    ensures { Says (λ n. n) (size_of usual (get_member (codes "m") (table_view table.now))) result }
 {
-    let Some(value) = found else {
+    let Some(_) = value_at(table, "m") else {
         return Ok(usual);
     };
-    Ok(read_number(alloc, "ring.m", 1, 1_024, Some(value))? as u16)
+    Ok(read_number(alloc, table, "m", "ring.m", 1, 1_024)? as u16)
 }
 
 #[tactic(auto, unfolding(crate::specs::Walk::ring_of))]
@@ -112,9 +102,9 @@ fn read_ring(
 ) -> Result<RingTable, ConfigFault>
     ensures { Says (λ r. r) (ring_of usual nodes.now least (table_view table.now)) result }
 {
-    let id = read_id(alloc, "ring.id", 15, least, value_at(table, "id"))?;
-    let acceptors = read_acceptors(alloc, nodes, table)?;
-    let m = read_size(alloc, usual, value_at(table, "m"))?;
+    let id = read_id(alloc, table, "id", "ring.id", 15, least)?;
+    let acceptors = read_seats(alloc, table, "acceptors", "ring.acceptors", &[], nodes)?;
+    let m = read_size(alloc, usual, table)?;
     judge_names(alloc, "ring.", &["id", "acceptors", "m"], table)?;
     Ok(RingTable {
         id: RingId(id),
@@ -151,6 +141,6 @@ pub fn read_rings(
 ) -> Result<Vec<RingTable>, ConfigFault>
     ensures { Says (λ v. v.items) (top_rings usual nodes.now (table_view table.now)) result }
 {
-    let tables = read_tables(alloc, "ring", 1, 16, value_at(table, "ring"))?;
+    let tables = read_tables(alloc, table, "ring", "ring", 1, 16)?;
     each_ring(alloc, usual, nodes, &tables)
 }

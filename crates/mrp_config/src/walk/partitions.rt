@@ -1,83 +1,33 @@
 //! The tables of partitions.
 
-ghost use Rattle.std.specs.Prelude.{◌≡◌, ◌++◌, ◌≤◌, ◌<◌, map, IfOk, IfErr, OnOk, IsTrue, codes, []};
+ghost use Rattle.std.specs.Prelude.{◌≡◌, ◌++◌, ◌≤◌, ◌<◌, map, IfOk, IfErr, OnOk, codes, []};
+ghost use Rattle.toml.specs.Data.{get_member};
 ghost use Rattle.toml.specs.View.{table_view};
-ghost use Rattle.mrp_config.specs.declared.fault.ConfigFault.TheVariants.{Memory};
-ghost use Rattle.mrp_config.specs.Walk.{Says, replicas_at as replicas_at_lem, rings_at as rings_at_lem, home_at as home_at_lem, from_at as from_at_lem, to_at as to_at_lem, logs_at as logs_at_lem, trim_quorum_at as trim_quorum_at_lem, recovery_quorum_at as recovery_quorum_at_lem, numbers_of_nodes, partition_of, partitions_of, all_known, partition_names, top_partitions};
+ghost use Rattle.mrp_types.specs.Seats.{numbers_of_nodes};
+ghost use Rattle.config_walk.specs.declared.fault.ConfigFault.TheVariants.{Memory};
+ghost use Rattle.config_walk.specs.Values.{Says, all_known};
+ghost use Rattle.mrp_config.specs.Walk.{home_of, partition_of, partitions_of, partition_names, top_partitions};
 
-use super::hex_text::read_hex;
-use super::names::judge_names;
-use super::numbers::{read_id, read_quorum};
-use super::seats::{read_home, read_logs, read_rings, read_seats};
-use super::tables::read_tables;
-use super::values::value_at;
-use crate::{ConfigFault, LogIds, PartitionTable, RingIds};
-use mrp_types::{Octets, PartitionId, RingId, Seats};
+use crate::lists::has_ring;
+use crate::{PartitionTable, RingIds};
+use config_walk::{
+    ConfigFault, judge_names, read_hex, read_id, read_logs, read_number, read_quorum, read_rings,
+    read_seats, read_tables, unknown_id,
+};
+use mrp_types::{PartitionId, RingId, Seats};
 use std::alloc::Global;
 use toml::Table;
 
-#[tactic(auto, unfolding(crate::specs::Walk::replicas_at))]
-fn replicas_at(
-    alloc: Global,
-    nodes: &[u8],
-    taken: &[u8],
-    table: &Table,
-) -> Result<Seats, ConfigFault>
-    ensures { Says (λ x. x) (replicas_at_lem nodes.now taken.now (table_view table.now)) result }
+#[tactic(auto, unfolding(crate::specs::Walk::home_of))]
+fn read_home(alloc: Global, rings: &RingIds, table: &Table) -> Result<RingId, ConfigFault>
+    ensures { Says (λ r. r) (home_of rings.now (get_member (codes "home") (table_view table.now))) result }
 {
-    let found = value_at(table, "replicas");
-    read_seats(alloc, "partition.replicas", taken, nodes, found)
-}
-
-#[tactic(auto, unfolding(crate::specs::Walk::rings_at))]
-fn rings_at(alloc: Global, rings: &[u8], table: &Table) -> Result<RingIds, ConfigFault>
-    ensures { Says (λ x. x) (rings_at_lem rings.now (table_view table.now)) result }
-{
-    read_rings(alloc, "partition.rings", rings, value_at(table, "rings"))
-}
-
-#[tactic(auto, unfolding(crate::specs::Walk::home_at))]
-fn home_at(alloc: Global, rings: &RingIds, table: &Table) -> Result<RingId, ConfigFault>
-    ensures { Says (λ x. x) (home_at_lem rings.now (table_view table.now)) result }
-{
-    read_home(alloc, "partition.home", rings, value_at(table, "home"))
-}
-
-#[tactic(auto, unfolding(crate::specs::Walk::from_at))]
-fn from_at(alloc: Global, table: &Table) -> Result<Octets, ConfigFault>
-    ensures { Says (λ x. x) (from_at_lem (table_view table.now)) result }
-{
-    read_hex(alloc, "partition.from", value_at(table, "from"))
-}
-
-#[tactic(auto, unfolding(crate::specs::Walk::to_at))]
-fn to_at(alloc: Global, table: &Table) -> Result<Octets, ConfigFault>
-    ensures { Says (λ x. x) (to_at_lem (table_view table.now)) result }
-{
-    read_hex(alloc, "partition.to", value_at(table, "to"))
-}
-
-#[tactic(auto, unfolding(crate::specs::Walk::logs_at))]
-fn logs_at(alloc: Global, table: &Table) -> Result<LogIds, ConfigFault>
-    ensures { Says (λ x. x) (logs_at_lem (table_view table.now)) result }
-{
-    read_logs(alloc, "partition.logs", value_at(table, "logs"))
-}
-
-#[tactic(auto, unfolding(crate::specs::Walk::trim_quorum_at))]
-fn trim_quorum_at(alloc: Global, table: &Table) -> Result<u8, ConfigFault>
-    ensures { Says (λ x. x) (trim_quorum_at_lem (table_view table.now)) result }
-{
-    let found = value_at(table, "trim_quorum");
-    read_quorum(alloc, "partition.trim_quorum", found)
-}
-
-#[tactic(auto, unfolding(crate::specs::Walk::recovery_quorum_at))]
-fn recovery_quorum_at(alloc: Global, table: &Table) -> Result<u8, ConfigFault>
-    ensures { Says (λ x. x) (recovery_quorum_at_lem (table_view table.now)) result }
-{
-    let found = value_at(table, "recovery_quorum");
-    read_quorum(alloc, "partition.recovery_quorum", found)
+    let name = "partition.home";
+    let ring = RingId(read_number(alloc, table, "home", name, 0, 15)? as u8);
+    if !has_ring(rings.items(), ring) {
+        return Err(unknown_id(alloc, name, ring.0));
+    }
+    Ok(ring)
 }
 
 fn judge_partition_names(alloc: Global, table: &Table) -> Result<(), ConfigFault>
@@ -109,15 +59,20 @@ fn read_partition(
     ensures walk { Says (λ p. p) (partition_of nodes.now rings.now taken.now least (table_view table.now)) result }
     ensures bounds { IfOk result (λ p. (least ≤ p.id.0) × (p.id.0 < 16)) }
 {
-    let id = read_id(alloc, "partition.id", 15, least, value_at(table, "id"))?;
-    let replicas = replicas_at(alloc, nodes, taken, table)?;
-    let own = rings_at(alloc, rings, table)?;
-    let home = home_at(alloc, &own, table)?;
-    let from = from_at(alloc, table)?;
-    let to = to_at(alloc, table)?;
-    let logs = logs_at(alloc, table)?;
-    let trim_quorum = trim_quorum_at(alloc, table)?;
-    let recovery_quorum = recovery_quorum_at(alloc, table)?;
+    let id = read_id(alloc, table, "id", "partition.id", 15, least)?;
+    let replicas = read_seats(alloc, table, "replicas", "partition.replicas", taken, nodes)?;
+    let own = read_rings(alloc, table, "rings", "partition.rings", rings)?;
+    let home = read_home(alloc, &own, table)?;
+    let from = read_hex(alloc, table, "from", "partition.from")?;
+    let to = read_hex(alloc, table, "to", "partition.to")?;
+    let logs = read_logs(alloc, table, "logs", "partition.logs")?;
+    let trim_quorum = read_quorum(alloc, table, "trim_quorum", "partition.trim_quorum")?;
+    let recovery_quorum = read_quorum(
+        alloc,
+        table,
+        "recovery_quorum",
+        "partition.recovery_quorum",
+    )?;
     judge_partition_names(alloc, table)?;
     Ok(PartitionTable {
         id: PartitionId(id),
@@ -171,6 +126,6 @@ pub fn read_partitions(
 ) -> Result<Vec<PartitionTable>, ConfigFault>
     ensures { Says (λ v. v.items) (top_partitions nodes.now rings.now (table_view table.now)) result }
 {
-    let tables = read_tables(alloc, "partition", 1, 16, value_at(table, "partition"))?;
+    let tables = read_tables(alloc, table, "partition", "partition", 1, 16)?;
     each_partition(alloc, nodes, rings, &tables)
 }

@@ -1,5 +1,4 @@
-use Rattle.mrp_config.proofs.Masks.{rising}
 use Rattle.mrp_config.proofs.deployment.Deployment.concerned.Goals as goal
 
 pub mask_concerned-requires : goal.mask_concerned-requires
-mask_concerned-requires c = rw c.deref.ensures.value (rising 0 _ c.self.invariant.partitions.ids c.self.invariant.partitions.numbers)
+mask_concerned-requires c = rw c.deref.ensures.value (record { rise = c.self.invariant.partitions.ids; low = c.self.invariant.partitions.numbers })

@@ -1,7 +1,7 @@
 use Rattle.std.proofs.Common.{◌≡◌, drop, map}
 use Rattle.toml.specs.View.{table_view}
 use Rattle.mrp_config.specs.Walk.{clients_of}
-use Rattle.mrp_config.proofs.Chains.{before}
+use Rattle.config_walk.proofs.Chains.{before}
 use Rattle.mrp_config.proofs.walk.nodes.each_client.Given as goal
 
 -- what was read so far and what is still read are all of it

@@ -2,8 +2,8 @@ use Rattle.std.proofs.Common.{ℕ, ◌+◌, map}
 use Rattle.toml.specs.View.{table_view}
 use Rattle.mrp_config.specs.declared.tables.NodeTable.{NodeTable}
 use Rattle.mrp_config.specs.Walk.{node_of, nodes_of}
-use Rattle.mrp_config.proofs.Chains.{begins, goes_on, ends, is_done}
-use Rattle.mrp_config.proofs.Views.{one_more, none_more}
+use Rattle.config_walk.proofs.Chains.{begins, goes_on, ends, is_done}
+use Rattle.config_walk.proofs.Views.{one_more, none_more}
 use Rattle.mrp_config.proofs.walk.nodes.each_node.Goals as goal
 
 pub loop-table-init : goal.loop-table-init

@@ -1,8 +1,8 @@
 use Rattle.toml.specs.View.{table_view}
 use Rattle.toml.specs.Data.{Members}
 use Rattle.mrp_config.specs.Walk.{Asked, asked_after, partition_of}
-use Rattle.mrp_config.proofs.Chains.{goes_on}
-use Rattle.mrp_config.proofs.Views.{one_more}
+use Rattle.config_walk.proofs.Chains.{goes_on}
+use Rattle.config_walk.proofs.Views.{one_more}
 use Rattle.mrp_config.proofs.walk.partitions.each_partition.Goals as goal
 
 pub loop-table-preserved : goal.loop-table-preserved

@@ -1,5 +1,5 @@
 use Rattle.std.proofs.Common.{◌≡◌, ◌++◌, drop}
-use Rattle.mrp_config.specs.Walk.{numbers_of_nodes}
+use Rattle.mrp_types.specs.Seats.{numbers_of_nodes}
 use Rattle.mrp_config.proofs.walk.partitions.take_replicas.Given as goal
 
 -- what was taken so far and what is still taken are all of it

@@ -1,0 +1,4 @@
+pub mod Address
+pub mod Faults
+pub mod Numbers
+pub mod Values

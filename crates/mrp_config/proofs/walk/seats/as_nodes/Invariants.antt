@@ -1,7 +1,0 @@
-use Rattle.std.proofs.Common.{◌≡◌, ◌++◌, drop}
-use Rattle.mrp_config.specs.Walk.{as_nodes}
-use Rattle.mrp_config.proofs.walk.seats.as_nodes.Given as goal
-
--- what was made so far and what is still made are all of it
-abbrev pub invariant-loop-number : goal.invariant-loop-number
-invariant-loop-number l = l.nodes.items ++ as_nodes (drop l.number-index l.numbers) ≡ as_nodes l.numbers

@@ -1,4 +1,0 @@
-mod accepted;
-mod refused;
-mod routes;
-mod texts;
