@@ -29,6 +29,7 @@ pub fn write_piece<O: Sink>(
 ) -> Result<(), Refused>
     ensures bytes { HandsOn (O.taken sink.old) (O.taken sink.new) held.old held.new result }
     ensures few { OnOk result (length held.new < 65536) }
+    ensures waits { length held.old < 65536 → (result ≡ Ok tt) × (held.new ≡ held.old) }
     ensures fault { CountsFault result (O.faults sink.old) (O.faults sink.new) }
 {
     if held.len() < PIECE {

@@ -90,20 +90,17 @@ fn readers_and_writers_of_std(rt: HostRuntime) -> Result<(), Fail> {
 fn text_is_written_in_pieces(rt: HostRuntime) -> Result<(), Fail> {
     let alloc = rt.alloc();
     let mut sink = MemSink::new(alloc, [1].to_vec(alloc)?);
+    let bytes = vec![in alloc; 7; 65_537]?;
     let mut text = new_piece(alloc)?;
-    text.extend(&vec![in alloc; 7; 65_535]?)?;
-    assert_eq!(rt; write_piece(alloc, &mut sink, &mut text), Ok(()));
-    assert!(rt; sink.bytes().is_empty());
-    assert_eq!(rt; text.len(), 65_535);
+    text.extend(&bytes[..65_535])?;
+    write_piece(alloc, &mut sink, &mut text)?;
+    assert_eq!(rt; (sink.bytes().len(), text.len()), (0, 65_535));
     text.push(8)?;
-    assert_eq!(rt; write_piece(alloc, &mut sink, &mut text), Ok(()));
-    assert_eq!(rt; sink.bytes().len(), 65_536);
-    assert!(rt; text.is_empty());
-    text.extend(&vec![in alloc; 9; 65_537]?)?;
-    assert_eq!(rt;
-        write_piece(alloc, &mut sink, &mut text),
-        Err(Refused::Failed)
-    );
+    write_piece(alloc, &mut sink, &mut text)?;
+    assert_eq!(rt; (sink.bytes().len(), text.len()), (65_536, 0));
+    text.extend(&bytes)?;
+    let failed = write_piece(alloc, &mut sink, &mut text);
+    assert_eq!(rt; failed, Err(Refused::Failed));
     assert_eq!(rt; sink.bytes().len(), 65_536);
     Ok(())
 }
