@@ -22,7 +22,7 @@ pub use generating::generate;
 pub use laws::generated_schedules_may_be;
 pub use reading::read;
 pub use rows::{events_of_each_kind, first_faults, texts_of_clients};
-pub use writing::write;
+pub use writing::{put_event, write};
 
 #[cfg(test)]
 mod tests;
