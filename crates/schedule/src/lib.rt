@@ -11,6 +11,7 @@ mod kinds;
 mod laws;
 mod names;
 mod reading;
+mod routing;
 mod rows;
 mod words;
 mod writing;
