@@ -3,7 +3,7 @@ use Rattle.std.proofs.Common.{◌≡◌, List, ℕ, [], ◌++◌, Option, sym, a
 use Rattle.std.proofs.KnownBytes.{Appends-nil, Appends-trans}
 use Rattle.std.specs.Prelude.{Result, Ok, Err, IsErrAnd}
 use Rattle.std.specs.Io.KnownBytes.{Appends}
-use Rattle.outside.specs.Writing.{WritesAll, Handed}
+use Rattle.outside.specs.Writing.{WritesAll, Handed, HandsOn}
 use Rattle.outside.proofs.WritingLemmas.{goes_on, stays, ends_with}
 
 pub record Going (old new : Option (List ℕ)) (held left whole done : List ℕ) : Type 0 where
@@ -64,3 +64,9 @@ pub ends : {E : Type 0} (a b c : Option (List ℕ)) (held put left whole : List 
     WritesAll b c put r → WritesAll a c whole r
 ends a b c held put left whole r is so_far written =
     ends_with a b c so_far.0 put whole r so_far.1.taken written (ap (λ (l : List ℕ). so_far.0 ++ l) is ∙ so_far.1.all)
+
+-- after a refusal nothing is said of what is held
+pub not_handed : {E : Type 0} (old new : Option (List ℕ)) (text held : List ℕ) (e : E) (r : Result (Unit {0}) E) → IsErrAnd r (λ x. x ≡ e) →
+    WritesAll old new text r → HandsOn old new text held r
+not_handed old new text held e (Ok u) given written = absurd given
+not_handed old new text held e (Err x) given written = written
