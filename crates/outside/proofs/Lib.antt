@@ -1,3 +1,4 @@
 pub mod Pieces
 pub mod ReadingLemmas
 pub mod WritingLemmas
+pub mod HandingLaws

@@ -5,11 +5,13 @@
 //! caller that answers a failure shows the rise, and can't invent one.
 #![tactic(auto)]
 
+mod held;
 mod memory;
 mod refused;
 mod sink;
 mod source;
 
+pub use held::{new_piece, write_piece};
 pub use memory::{MemSink, MemSource};
 pub use refused::Refused;
 pub use sink::{Sink, WriteSink, write_all};

@@ -28,10 +28,10 @@ use Rattle.mrp_config.specs.Valid.{IsValid, AreApart, AreAllApart, holders, numb
 use Rattle.mrp_config.proofs.Keys.{each_key_has_one}
 use Rattle.schedule.specs.declared.event.ScheduleEvent.{ScheduleEvent}
 use Rattle.schedule.specs.declared.event.ScheduleEvent.TheVariants.{Ask, Flow, Lose, Deliver, TickAll, Crash, Restart, Fuse}
-use Rattle.schedule.specs.Fields.{is_client, is_node}
+use Rattle.schedule.specs.Fields.{is_client, is_node, is_held}
 use Rattle.schedule.specs.Spelling.{event_words, event_text, schedule_text, has_route, IsClient, IsNode, AreBytes, IsWithin, IsEvent, IsSchedule}
 use Rattle.schedule.specs.declared.names.Names.{Names}
-use Rattle.schedule.specs.Generating.{named_below, is_held, client_named, node_named, log_named, names_of, xth, event_of, asked_by, stop_of, image_of, event_by, events_by, opening, drawn_words, generated}
+use Rattle.schedule.specs.Generating.{named_below, client_named, node_named, log_named, names_of, xth, event_of, asked_by, stop_of, image_of, event_by, events_by, opening, drawn_words, generated}
 
 -- ---- lists
 

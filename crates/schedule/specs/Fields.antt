@@ -1,5 +1,5 @@
 -- What a word of a schedule may say: a number, the id of something that the deployment has, bytes, logs.
-use Rattle.std.specs.Prelude.{ℕ, ◌+◌, nat_lt, Bool, false, if◌then◌else◌, List, [], ◌∷◌, length, is_some, Option, Some, None, Result, Ok, Err}
+use Rattle.std.specs.Prelude.{ℕ, ◌+◌, nat_lt, Bool, true, false, if◌then◌else◌, List, [], ◌∷◌, length, is_some, Option, Some, None, Result, Ok, Err}
 use Rattle.text_lines.specs.declared.fault.TextFault.{TextFault}
 use Rattle.text_lines.specs.declared.fault.TextFault.TheVariants.{Range}
 use Rattle.text_lines.specs.Split.{pieces_of}
@@ -7,7 +7,8 @@ use Rattle.text_lines.specs.Reading.{◌>>=◌, number_of, hex_of}
 use Rattle.mrp_types.specs.Seats.{seat_of}
 use Rattle.mrp_types.specs.declared.id.LogId.{LogId}
 use Rattle.mrp_config.specs.declared.tables.RingTable.{RingTable}
-use Rattle.mrp_config.specs.Config.{Config, client_at, node_at, ring_at}
+use Rattle.mrp_config.specs.declared.tables.PartitionTable.{PartitionTable}
+use Rattle.mrp_config.specs.Config.{Config, client_at, node_at, ring_at, has_log}
 
 -- a value whose size is of this range, both ends included
 abbrev pub ranged : {V : Type 0} → ℕ → ℕ → ℕ → V → Result V TextFault
@@ -35,6 +36,11 @@ has_seat node (Some ring) = is_some (seat_of (record { 0 = node }) ring.acceptor
 -- whether the node is an acceptor of the ring
 abbrev pub can_lead : Config → ℕ × ℕ → Bool
 can_lead config x = has_seat x.0 (ring_at config.rings x.1)
+
+-- whether one of the partitions has the log
+abbrev pub is_held : List PartitionTable → ℕ → Bool
+is_held [] n = false
+is_held (p ∷ partitions) n = if has_log p.logs n then true else is_held partitions n
 
 -- bytes whose number is of this range
 unfoldable pub bytes_in : ℕ → ℕ → List ℕ → Result (List ℕ) TextFault

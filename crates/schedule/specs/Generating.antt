@@ -11,23 +11,17 @@ use Rattle.command_codec.specs.Fields.{u16_bytes, u32_bytes}
 use Rattle.command_codec.specs.declared.command.Command.TheVariants.{Append, Insert}
 use Rattle.disk_model.specs.declared.area.Image.{Image}
 use Rattle.disk_model.specs.declared.area.Image.TheVariants.{Old, New, Fill}
-use Rattle.mrp_config.specs.declared.tables.PartitionTable.{PartitionTable}
-use Rattle.mrp_config.specs.Config.{Config, has_log}
+use Rattle.mrp_config.specs.Config.{Config}
 use Rattle.schedule.specs.declared.event.ScheduleEvent.{ScheduleEvent}
 use Rattle.schedule.specs.declared.names.Names.{Names}
 use Rattle.schedule.specs.declared.event.ScheduleEvent.TheVariants.{Ask, Flow, Lose, Deliver, TickAll, Crash, Restart, Fuse}
-use Rattle.schedule.specs.Fields.{is_client, is_node}
+use Rattle.schedule.specs.Fields.{is_client, is_node, is_held}
 
 -- ---- whom events name
 
 -- those below `end` that pass the test, in order of id
 unfoldable pub named_below : {A : Type 0} → (ℕ → A) → (ℕ → Bool) → ℕ → List A
 named_below name test end = map name (filter test (range_with_len 0 end))
-
--- whether one of the partitions has the log
-abbrev pub is_held : List PartitionTable → ℕ → Bool
-is_held [] n = false
-is_held (p ∷ partitions) n = if has_log p.logs n then true else is_held partitions n
 
 abbrev pub client_named : ℕ → ClientId
 client_named n = record { 0 = n }

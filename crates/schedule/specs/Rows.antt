@@ -264,6 +264,8 @@ later_faults =
     ∷ ended (codes "ask 0 append 9 61") kind.Route
     ∷ ended (codes "ask 0 multi 0,1 63") kind.Route
     ∷ ended (codes "ask 0 multi 9 -") kind.Route
+    ∷ ended (codes "ask 0 multi 0,9 -") kind.Route
+    ∷ ended (codes "ask 0 multi 1,2,63 -") kind.Route
     ∷ ended (codes "ask 0 read 9 0") kind.Route
     ∷ ended (codes "ask 0 scan 61 7b") kind.Route
     ∷ ended (codes "ask 0 scan - -") kind.Route
@@ -300,6 +302,7 @@ texts =
     ∷ asked (codes "get -" ++ 10 ∷ []) (Err (record { line = 1; kind = kind.Range }))
     ∷ asked (codes "get 6b 6b" ++ 10 ∷ []) (Err (record { line = 1; kind = kind.Left }))
     ∷ asked (codes "append 9 61" ++ 10 ∷ []) (Err (record { line = 1; kind = kind.Route }))
+    ∷ asked (codes "multi 0,9 61" ++ 10 ∷ []) (Err (record { line = 1; kind = kind.Route }))
     ∷ asked (codes "append 9 61") (Err (record { line = 1; kind = kind.Cut }))
     ∷ asked (codes "get 6b" ++ 10 ∷ 10 ∷ []) (Err (record { line = 2; kind = kind.Left }))
     ∷ asked (codes "get 6b" ++ 10 ∷ (codes "x")) (Err (record { line = 2; kind = kind.Left }))

@@ -1,5 +1,5 @@
 -- The one spelling of each event, and which lists of events are a schedule over a deployment.
-use Rattle.std.specs.Prelude.{ℕ, ◌≡◌, ◌≤◌, ◌<◌, ◌^◌, Bool, true, List, [], ◌∷◌, length, map, codes, is_ok, IsTrue}
+use Rattle.std.specs.Prelude.{ℕ, ◌≡◌, ◌≤◌, ◌<◌, ◌^◌, ◌&&◌, Bool, true, false, if◌then◌else◌, List, [], ◌∷◌, length, map, codes, is_ok, IsTrue}
 use Rattle.std.specs.List.{flat_map, AllByRecursion}
 use Rattle.std.specs.Fmt.{decimal}
 use Rattle.hex.specs.Hex.{IsBytes, encode_lower}
@@ -10,11 +10,12 @@ use Rattle.command_codec.specs.declared.command.Command.{Command}
 use Rattle.command_codec.specs.declared.command.Command.TheVariants.{Append, Multi, ReadLog, TrimLog, Get, Scan, Update, Insert, Delete, Swap}
 use Rattle.disk_model.specs.declared.area.Image.{Image}
 use Rattle.disk_model.specs.declared.area.Image.TheVariants.{Old, New, Fill}
+use Rattle.mrp_config.specs.declared.tables.PartitionTable.{PartitionTable}
 use Rattle.mrp_config.specs.Config.{Config}
 use Rattle.mrp_config.specs.Routing.{route_of, concerned_of, is_below}
 use Rattle.schedule.specs.declared.event.ScheduleEvent.{ScheduleEvent}
 use Rattle.schedule.specs.declared.event.ScheduleEvent.TheVariants.{Ask, Flow, Lose, Deliver, List as Shown, TickAll, TickNode, TickClient, Lead, Crash, Restart, Fuse, Fail, FailRead, Show}
-use Rattle.schedule.specs.Fields.{is_client, is_node, can_lead}
+use Rattle.schedule.specs.Fields.{is_client, is_node, can_lead, is_held}
 
 -- ---- words
 
@@ -136,11 +137,21 @@ IsWorded config (Fail node calls) = IsNode config node.0 × IsWithin 0 1000 call
 IsWorded config (FailRead node calls) = IsNode config node.0 × IsWithin 0 1000 calls
 IsWorded config (Show node) = IsNode config node.0
 
--- whether a ring orders the command
-abbrev pub has_route : Config → Command → Bool
-has_route config command = is_ok (route_of (concerned_of command config.partitions))
+-- whether each of the logs is one that some partition has
+abbrev pub are_held : List PartitionTable → List LogId → Bool
+are_held partitions [] = true
+are_held partitions (log ∷ logs) = if is_held partitions log.0 then are_held partitions logs else false
 
--- whether a ring orders the command of the event, if it has one
+-- The same of the logs of a `multi`. A command on one log that no partition has concerns none, so that no ring orders it.
+abbrev pub has_logs : Config → Command → Bool
+has_logs config (Multi logs value) = are_held config.partitions logs
+has_logs config other = true
+
+-- whether a ring orders the command, and some partition has each of its logs
+abbrev pub has_route : Config → Command → Bool
+has_route config command = has_logs config command && is_ok (route_of (concerned_of command config.partitions))
+
+-- whether the command of the event has a route, if it has one
 abbrev pub is_routed : Config → ScheduleEvent → Bool
 is_routed config (Ask client command) = has_route config command
 is_routed config other = true

@@ -14,6 +14,7 @@ ghost use Rattle.schedule.specs.Asking.{command_of, bounded_command, second_faul
 use crate::commands::read_command;
 use crate::fault::kind_of;
 use crate::reading::BYTES;
+use crate::routing::has_route;
 use crate::{FaultKind, ScheduleFault};
 use command_codec::Command;
 use mrp_config::Deployment;
@@ -107,7 +108,7 @@ fn read_line(
     if !line.ended {
         return Err(FaultKind::Cut);
     }
-    if deployment.route(&command).is_err() {
+    if !has_route(deployment, &command) {
         return Err(FaultKind::Route);
     }
     Ok(command)

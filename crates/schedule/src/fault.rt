@@ -14,7 +14,7 @@ pub enum FaultKind {
     Number,
     /// A number is out of its range, the deployment has no such client, or a value is too long.
     Range,
-    /// No ring orders the command, since no partition has the log.
+    /// No ring orders the command, or no partition has one of its logs.
     Route,
     /// Words are left over.
     Left,

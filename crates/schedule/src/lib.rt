@@ -11,6 +11,7 @@ mod kinds;
 mod laws;
 mod names;
 mod reading;
+mod routing;
 mod rows;
 mod words;
 mod writing;
@@ -22,7 +23,7 @@ pub use generating::generate;
 pub use laws::generated_schedules_may_be;
 pub use reading::read;
 pub use rows::{events_of_each_kind, first_faults, texts_of_clients};
-pub use writing::write;
+pub use writing::{put_event, write};
 
 #[cfg(test)]
 mod tests;

@@ -1,10 +1,11 @@
 //! Whom the events of a generated schedule name.
 
 ghost use Rattle.std.specs.Prelude.{◌≡◌, IfOk};
-ghost use Rattle.schedule.specs.Generating.{names_of, named_below, is_held, client_named, node_named, log_named, xth as xth_lem};
-ghost use Rattle.schedule.specs.Fields.{is_client, is_node};
+ghost use Rattle.schedule.specs.Generating.{names_of, named_below, client_named, node_named, log_named, xth as xth_lem};
+ghost use Rattle.schedule.specs.Fields.{is_client, is_node, is_held};
 
-use mrp_config::{Deployment, PartitionTable, has_log};
+use crate::routing::has_holder;
+use mrp_config::{Deployment, PartitionTable};
 use mrp_types::{ClientId, Items, LogId, Memory, NodeId};
 use std::alloc::Global;
 
@@ -104,18 +105,6 @@ fn logs_of(alloc: Global, partitions: &[PartitionTable]) -> Result<Items<LogId>,
         }
     }
     Ok(logs)
-}
-
-// Whether one of the partitions has the log.
-fn has_holder(partitions: &[PartitionTable], log: LogId) -> bool
-    ensures { result ≡ is_held partitions.now log.0 }
-{
-    for p in partitions {
-        if has_log(p.logs.items(), log) {
-            return true;
-        }
-    }
-    false
 }
 
 // The x-th, counted from 0 and round and round; none of none.

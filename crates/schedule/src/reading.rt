@@ -10,6 +10,7 @@ ghost use Rattle.schedule.specs.Reading.{event_in, line_of, bounded, at_line, sc
 
 use crate::fault::kind_of;
 use crate::kinds::read_event;
+use crate::routing::has_route;
 use crate::{FaultKind, Schedule, ScheduleEvent, ScheduleFault};
 use mrp_config::Deployment;
 use std::alloc::Global;
@@ -24,8 +25,8 @@ pub const BYTES: usize = 67_108_864;
 ///
 /// A line is at fault by the first of these: it is past the first 1,048,576 lines, or the part of the text that ends
 /// with it has more than 67,108,864 bytes (`TooMany`); its words from the left (`Word`, `Number`, `Range`); words
-/// behind them (`Left`); no line feed ends it (`Cut`); no ring orders its command (`Route`). `Memory` comes wherever
-/// memory runs out.
+/// behind them (`Left`); no line feed ends it (`Cut`); no ring orders its command, or no partition has one of its logs
+/// (`Route`). `Memory` comes wherever memory runs out.
 pub fn read(alloc: Global, deployment: &Deployment, bytes: &[u8]) -> Result<Schedule, ScheduleFault>
     // What is read is spelled so.
     ensures found { IfOk result (λ schedule. IsSchedule deployment.now bytes.now schedule) }
@@ -112,12 +113,12 @@ fn read_line(
     Ok(event)
 }
 
-// Whether a ring orders the command of the event, if it has one.
+// Whether the command of the event has a route, if it has one.
 fn has_ring(deployment: &Deployment, event: &ScheduleEvent) -> bool
     ensures { result ≡ is_routed deployment.now event.now }
 {
     match event {
-        ScheduleEvent::Ask { client: _, command } => deployment.route(command).is_ok(),
+        ScheduleEvent::Ask { client: _, command } => has_route(deployment, command),
         _ => true,
     }
 }

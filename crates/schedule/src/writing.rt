@@ -21,27 +21,27 @@ pub fn write(alloc: Global, schedule: &Schedule) -> Result<Octets, Memory>
     let mut out = Octets::new(alloc);
     let events = schedule.items();
     for event in events {
-        put_event(alloc, &mut out, event)?;
+        put_event(&mut out, event)?;
     }
     Ok(out)
 }
 
-// Adds an event's line.
-fn put_event(alloc: Global, out: &mut Octets, event: &ScheduleEvent) -> Result<(), Memory>
+/// Adds an event's line to the text so far. After a refusal nothing is said of what the text is.
+pub fn put_event(out: &mut Octets, event: &ScheduleEvent) -> Result<(), Memory>
     ensures { OnOk result (out.new ≡ out.old ++ event_text event.now) }
 {
-    put_words(alloc, out, event)?;
+    put_words(out, event)?;
     out.push(b'\n')
 }
 
 // Adds the words of an event.
-fn put_words(alloc: Global, out: &mut Octets, event: &ScheduleEvent) -> Result<(), Memory>
+fn put_words(out: &mut Octets, event: &ScheduleEvent) -> Result<(), Memory>
     ensures { OnOk result (out.new ≡ out.old ++ joined (event_words event.now)) }
 {
     match event {
         ScheduleEvent::Ask { client, command } => {
             put_head(out, b"ask", u64::from(client.0))?;
-            put_command(alloc, out, command)
+            put_command(out, command)
         }
         ScheduleEvent::Flow { count } => put_head(out, b"flow", u64::from(*count)),
         ScheduleEvent::Lose { count } => put_head(out, b"lose", u64::from(*count)),
@@ -68,7 +68,7 @@ fn put_words(alloc: Global, out: &mut Octets, event: &ScheduleEvent) -> Result<(
         ScheduleEvent::Crash { node } => put_head(out, b"crash", u64::from(node.0)),
         ScheduleEvent::Restart { node, image } => {
             put_head(out, b"restart", u64::from(node.0))?;
-            put_image(alloc, out, *image)
+            put_image(out, *image)
         }
         ScheduleEvent::Fuse { node, calls } => {
             put_head(out, b"fuse", u64::from(node.0))?;
@@ -95,7 +95,7 @@ fn put_head(out: &mut Octets, word: &[u8], number: u64) -> Result<(), Memory>
 }
 
 // Adds the words of an image, each after a space.
-fn put_image(alloc: Global, out: &mut Octets, image: Image) -> Result<(), Memory>
+fn put_image(out: &mut Octets, image: Image) -> Result<(), Memory>
     ensures { OnOk result (out.new ≡ out.old ++ flat_map spaced (image_words image)) }
 {
     match image {
@@ -104,25 +104,25 @@ fn put_image(alloc: Global, out: &mut Octets, image: Image) -> Result<(), Memory
         Image::Fill { keep, byte } => {
             put_word(out, b"fill")?;
             put_number(out, u64::from(keep))?;
-            put_hex(alloc, out, &[byte])
+            put_hex(out, &[byte])
         }
     }
 }
 
 // Adds the words of a command, each after a space.
-fn put_command(alloc: Global, out: &mut Octets, command: &Command) -> Result<(), Memory>
+fn put_command(out: &mut Octets, command: &Command) -> Result<(), Memory>
     ensures { OnOk result (out.new ≡ out.old ++ flat_map spaced (command_words command.now)) }
 {
     match command {
         Command::Append { log, value } => {
             put_word(out, b"append")?;
             put_number(out, u64::from(log.0))?;
-            put_bytes(alloc, out, value.bytes())
+            put_bytes(out, value.bytes())
         }
         Command::Multi { logs, value } => {
             put_word(out, b"multi")?;
             put_logs(out, logs.items())?;
-            put_bytes(alloc, out, value.bytes())
+            put_bytes(out, value.bytes())
         }
         Command::ReadLog { log, position } => {
             put_word(out, b"read")?;
@@ -136,32 +136,32 @@ fn put_command(alloc: Global, out: &mut Octets, command: &Command) -> Result<(),
         }
         Command::Get { key } => {
             put_word(out, b"get")?;
-            put_bytes(alloc, out, key.bytes())
+            put_bytes(out, key.bytes())
         }
         Command::Scan { from, to } => {
             put_word(out, b"scan")?;
-            put_bytes(alloc, out, from.bytes())?;
-            put_bytes(alloc, out, to.bytes())
+            put_bytes(out, from.bytes())?;
+            put_bytes(out, to.bytes())
         }
         Command::Update { key, value } => {
             put_word(out, b"update")?;
-            put_bytes(alloc, out, key.bytes())?;
-            put_bytes(alloc, out, value.bytes())
+            put_bytes(out, key.bytes())?;
+            put_bytes(out, value.bytes())
         }
         Command::Insert { key, value } => {
             put_word(out, b"insert")?;
-            put_bytes(alloc, out, key.bytes())?;
-            put_bytes(alloc, out, value.bytes())
+            put_bytes(out, key.bytes())?;
+            put_bytes(out, value.bytes())
         }
         Command::Delete { key } => {
             put_word(out, b"delete")?;
-            put_bytes(alloc, out, key.bytes())
+            put_bytes(out, key.bytes())
         }
         Command::Swap { key, old, new } => {
             put_word(out, b"swap")?;
-            put_bytes(alloc, out, key.bytes())?;
-            put_bytes(alloc, out, old.bytes())?;
-            put_bytes(alloc, out, new.bytes())
+            put_bytes(out, key.bytes())?;
+            put_bytes(out, old.bytes())?;
+            put_bytes(out, new.bytes())
         }
     }
 }

@@ -4,3 +4,4 @@ pub mod Numbers
 pub mod Places
 pub mod WordsWere
 pub mod WordLaws
+pub mod Digits

@@ -128,9 +128,9 @@ fn words_are_put_after_a_space(rt: HostRuntime) -> Result<(), Fail> {
     let mut out = Octets::from_slice(alloc, b"x")?;
     put_word(&mut out, b"ab")?;
     put_number(&mut out, 100)?;
-    put_hex(alloc, &mut out, &[10, 255])?;
-    put_bytes(alloc, &mut out, &[])?;
-    put_bytes(alloc, &mut out, &[1])?;
+    put_hex(&mut out, &[10, 255])?;
+    put_bytes(&mut out, &[])?;
+    put_bytes(&mut out, &[1])?;
     assert_eq!(rt; out.bytes(), b"x ab 100 0aff - 01".as_slice());
     Ok(())
 }

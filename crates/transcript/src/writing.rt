@@ -17,20 +17,20 @@ pub fn write_line(alloc: Global, line: &Line) -> Result<Octets, Memory>
     ensures { IfOk result (λ bytes. bytes ≡ line_bytes line.now) }
 {
     let mut out = Octets::new(alloc);
-    put_line(alloc, &mut out, line)?;
+    put_line(&mut out, line)?;
     Ok(out)
 }
 
 /// Adds a line to the text so far. After a refusal nothing is said of what the text is.
-pub fn put_line(alloc: Global, out: &mut Octets, line: &Line) -> Result<(), Memory>
+pub fn put_line(out: &mut Octets, line: &Line) -> Result<(), Memory>
     ensures { OnOk result (out.new ≡ out.old ++ line_bytes line.now) }
 {
-    put_words(alloc, out, line)?;
+    put_words(out, line)?;
     out.push(b'\n')
 }
 
 // Adds the words of a line.
-fn put_words(alloc: Global, out: &mut Octets, line: &Line) -> Result<(), Memory>
+fn put_words(out: &mut Octets, line: &Line) -> Result<(), Memory>
     ensures { OnOk result (out.new ≡ out.old ++ joined (line_words line.now)) }
 {
     match line {
@@ -46,7 +46,7 @@ fn put_words(alloc: Global, out: &mut Octets, line: &Line) -> Result<(), Memory>
                 b"learn",
                 &[u64::from(node.0), u64::from(ring.0), *lo, *hi],
             )?;
-            put_value(alloc, out, value)
+            put_value(out, value)
         }
         Line::Deliver { node, ring, inst } => put_head(
             out,
@@ -74,9 +74,9 @@ fn put_words(alloc: Global, out: &mut Octets, line: &Line) -> Result<(), Memory>
                     *seq,
                 ],
             )?;
-            put_hex(alloc, out, reply.bytes())
+            put_hex(out, reply.bytes())
         }
-        Line::Answer { client, seq, reply } => put_answer(alloc, out, *client, *seq, reply),
+        Line::Answer { client, seq, reply } => put_answer(out, *client, *seq, reply),
         Line::Busy { client, seq } => put_head(out, b"busy", &[u64::from(client.0), *seq]),
         Line::Begin {
             node,
@@ -135,11 +135,11 @@ fn put_words(alloc: Global, out: &mut Octets, line: &Line) -> Result<(), Memory>
         Line::Up { node, epoch } => put_head(out, b"up", &[u64::from(node.0), *epoch]),
         Line::State { node, shown } => {
             put_head(out, b"state", &[u64::from(node.0)])?;
-            put_state(alloc, out, shown)
+            put_state(out, shown)
         }
         Line::Frame { number, shown } => {
             put_head(out, b"frame", &[*number])?;
-            put_frame(alloc, out, shown)
+            put_frame(out, shown)
         }
         Line::End { events } => put_head(out, b"end", &[*events]),
     }
@@ -164,17 +164,11 @@ fn put_head(out: &mut Octets, word: &[u8], numbers: &[u64]) -> Result<(), Memory
     put_each(out, b' ', numbers)
 }
 
-fn put_answer(
-    alloc: Global,
-    out: &mut Octets,
-    client: ClientId,
-    seq: u64,
-    reply: &Octets,
-) -> Result<(), Memory>
+fn put_answer(out: &mut Octets, client: ClientId, seq: u64, reply: &Octets) -> Result<(), Memory>
     ensures { OnOk result (out.new ≡ out.old ++ joined (line_words (Answer client seq reply.now))) }
 {
     put_head(out, b"answer", &[u64::from(client.0), seq])?;
-    put_hex(alloc, out, reply.bytes())
+    put_hex(out, reply.bytes())
 }
 
 fn put_ballot_limit(out: &mut Octets, node: NodeId, ring: RingId) -> Result<(), Memory>
@@ -193,12 +187,12 @@ fn put_instance_limit(out: &mut Octets, node: NodeId, ring: RingId) -> Result<()
     put_number(out, u64::from(ring.0))
 }
 
-fn put_value(alloc: Global, out: &mut Octets, value: &Value) -> Result<(), Memory>
+fn put_value(out: &mut Octets, value: &Value) -> Result<(), Memory>
     ensures { OnOk result (out.new ≡ out.old ++ spaced (value_text value.now)) }
 {
     match value {
         Value::Skip => put_word(out, b"skip"),
-        Value::Batch(batch) => put_hex(alloc, out, batch.bytes()),
+        Value::Batch(batch) => put_hex(out, batch.bytes()),
     }
 }
 
@@ -223,19 +217,19 @@ fn put_cause(out: &mut Octets, cause: Cause) -> Result<(), Memory>
     }
 }
 
-fn put_state(alloc: Global, out: &mut Octets, shown: &Option<ShownState>) -> Result<(), Memory>
+fn put_state(out: &mut Octets, shown: &Option<ShownState>) -> Result<(), Memory>
     ensures { OnOk result (out.new ≡ out.old ++ flat_map spaced (state_words shown.now)) }
 {
     match shown {
         None => put_word(out, b"-"),
         Some(shown) => {
             put_tuple(out, &shown.tuple)?;
-            put_hex(alloc, out, shown.bytes.bytes())
+            put_hex(out, shown.bytes.bytes())
         }
     }
 }
 
-fn put_frame(alloc: Global, out: &mut Octets, shown: &Option<ShownFrame>) -> Result<(), Memory>
+fn put_frame(out: &mut Octets, shown: &Option<ShownFrame>) -> Result<(), Memory>
     ensures { OnOk result (out.new ≡ out.old ++ flat_map spaced (frame_words shown.now)) }
 {
     match shown {
@@ -243,7 +237,7 @@ fn put_frame(alloc: Global, out: &mut Octets, shown: &Option<ShownFrame>) -> Res
         Some(shown) => {
             put_party(out, shown.from)?;
             put_party(out, shown.to)?;
-            put_hex(alloc, out, shown.bytes.bytes())
+            put_hex(out, shown.bytes.bytes())
         }
     }
 }

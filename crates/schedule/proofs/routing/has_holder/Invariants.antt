@@ -1,6 +1,6 @@
 use Rattle.std.proofs.Common.{◌≡◌, drop}
-use Rattle.schedule.specs.Generating.{is_held}
-use Rattle.schedule.proofs.names.has_holder.Given as goal
+use Rattle.schedule.specs.Fields.{is_held}
+use Rattle.schedule.proofs.routing.has_holder.Given as goal
 
 -- what is left to look through
 abbrev pub invariant-loop-p : goal.invariant-loop-p
