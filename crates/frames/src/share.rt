@@ -1,7 +1,6 @@
 //! Equal frames.
 
-ghost use Rattle.std.specs.Prelude.{◌≡◌, ◌≤◌, IfOk};
-ghost use Rattle.frames.specs.Spelling.{kind_of_body};
+ghost use Rattle.std.specs.Prelude.{◌≡◌, IfOk};
 
 use crate::{Body, BoxedTuple, Frame};
 use mrp_types::{Decided, Memory, Octets, Ranges, Voted, Votes};

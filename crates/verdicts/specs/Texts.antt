@@ -14,7 +14,6 @@ use Rattle.schedule.specs.declared.fault.FaultKind.{FaultKind}
 use Rattle.schedule.specs.declared.fault.FaultKind.TheVariants as events
 use Rattle.transcript.specs.declared.fault.LineKind.{LineKind}
 use Rattle.transcript.specs.declared.fault.LineKind.TheVariants as lines
-use Rattle.disk_model.specs.declared.area.Area.{Area}
 use Rattle.disk_model.specs.Areas.{number_of}
 use Rattle.vote_state.specs.State.{State, promise_at}
 use Rattle.vote_journal.specs.declared.fault.OpenFault.{OpenFault}

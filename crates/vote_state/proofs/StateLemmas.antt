@@ -1,5 +1,5 @@
 -- What changes make of the state.
-use Rattle.std.proofs.Common.{lit<, ◌+◌, ◌-◌, ◌^◌, ◌≡◌, ℕ, zero, suc, ◌<◌, ◌≤◌, true, false, Bool, List, [], ◌∷◌, ◌++◌, length, drop, refl, sym, ◌∙◌, ap, subst, arith, inl, inr}
+use Rattle.std.proofs.Common.{lit<, ◌+◌, ◌-◌, ◌^◌, ◌≡◌, ℕ, zero, suc, ◌<◌, ◌≤◌, true, false, Bool, List, [], ◌∷◌, ◌++◌, length, drop, refl, sym, ◌∙◌, ap, arith, inl, inr}
 use Rattle.std.specs.Prelude.{nat_le, nat_lt, filter, nat_eq, if◌then◌else◌, slice_index_or, slice_set}
 use Rattle.std.specs.List.{AllByRecursion}
 use Rattle.std.proofs.lemmas.Bool.{cases_eq}
