@@ -1,13 +1,11 @@
 -- A schedule is replayed event by event.
-use Rattle.std.proofs.Common.{arith, ◌≡◌, ◌<◌, ◌≤◌, ◌+◌, suc, ℕ, List, [], ◌∷◌, ◌++◌, length, get_or, drop, drop-cons, add-one, Option, sym, ap, ◌∙◌, subst, append_assoc}
+use Rattle.std.proofs.Common.{arith, refl, ◌≡◌, ◌<◌, ◌≤◌, ◌+◌, suc, ℕ, List, [], ◌∷◌, ◌++◌, length, get_or, drop, drop-cons, add-one, Option, sym, ap, ◌∙◌, subst, append_assoc, append-nil}
 use Rattle.std.proofs.lemmas.Grind.{common_steps}
 use Rattle.std.specs.List.{AllByRecursion}
 use Rattle.std.specs.Prelude.{Result, Ok, Err, IsErrAnd}
 use Rattle.std.proofs.lemmas.Grind.{flat_map-append}
-use Rattle.std.specs.Io.KnownBytes.{Appends}
-use Rattle.std.proofs.KnownBytes.{Appends-nil, Appends-trans}
-use Rattle.outside.specs.Writing.{WritesAll}
-use Rattle.outside.proofs.WritingLemmas.{appended, goes_on, ends_with}
+use Rattle.outside.specs.Writing.{WritesAll, Handed}
+use Rattle.outside.proofs.HandingLaws.{Goes, begins as nothing_written, goes_further, refused as refused_then, ends as written_then}
 use Rattle.transcript.specs.declared.line.Line.{Line}
 use Rattle.transcript.specs.declared.line.Line.TheVariants.{End}
 use Rattle.transcript.specs.Spelling.{line_bytes, lines_text}
@@ -27,82 +25,65 @@ text_of ring schedule = lines_text (trace ring schedule)
 abbrev pub text_from : List ScheduleEvent → World → List ScheduleEvent → List ℕ
 text_from schedule w events = lines_text (lines_from w events ++ End (length schedule) ∷ [])
 
--- what was written by now, and what is left to write
-pub record Written (old new : Option (List ℕ)) (ring : RingTable) (schedule : List ScheduleEvent) (w : World) (rest : List ScheduleEvent) (done : List ℕ) : Type 0 where
-  pub taken : Appends old new done
-  pub whole : done ++ text_from schedule w rest ≡ text_of ring schedule
-
-abbrev pub Replayed : Option (List ℕ) → Option (List ℕ) → RingTable → List ScheduleEvent → World → List ScheduleEvent → Type 0
-Replayed old new ring schedule w rest = (done : List ℕ) × Written old new ring schedule w rest done
+-- what is held and what was written by now, and what is left to add
+abbrev pub Replayed : Option (List ℕ) → Option (List ℕ) → List ℕ → RingTable → List ScheduleEvent → World → List ScheduleEvent → Type 0
+Replayed old new held ring schedule w rest = Goes old new held (text_from schedule w rest) (text_of ring schedule)
 
 -- ---- the turns of a replay
 
-pub begins : (a : Option (List ℕ)) (ring : RingTable) (schedule items : List ScheduleEvent) (w : World) → w ≡ start ring → items ≡ schedule → Replayed a a ring schedule w items
+pub begins : (a : Option (List ℕ)) (held : List ℕ) (ring : RingTable) (schedule items : List ScheduleEvent) (w : World) → held ≡ [] → w ≡ start ring → items ≡ schedule →
+    Replayed a a held ring schedule w items
 unfolding trace
-begins a ring schedule items w is same = (
-  [],
-  record {
-    taken = Appends-nil a;
-    whole = ap (λ (v : World). text_from schedule v items) is ∙ ap (text_from schedule (start ring)) same;
-  },
-)
+begins a held ring schedule items w none is same =
+    nothing_written a held (text_from schedule w items) (text_of ring schedule)
+    (ap (λ (l : List ℕ). l ++ text_from schedule w items) none ∙ ap (λ (v : World). text_from schedule v items) is ∙ ap (text_from schedule (start ring)) same)
+
+abbrev pub piece_of : World → ScheduleEvent → List ℕ
+piece_of w event = lines_text (happens w event).lines
 
 -- the text to come is that of one event and of those after it
 one_event : (schedule rest later : List ScheduleEvent) (w : World) (event : ScheduleEvent) → rest ≡ event ∷ later →
-    text_from schedule w rest ≡ lines_text (happens w event).lines ++ text_from schedule (happens w event).world later
+    text_from schedule w rest ≡ piece_of w event ++ text_from schedule (happens w event).world later
 one_event schedule rest later w event is =
     let now = (happens w event).lines in
     let then = lines_from (happens w event).world later in
     let last : List Line = End (length schedule) ∷ [] in
     ap (text_from schedule w) is ∙ ap lines_text (append_assoc now then last) ∙ flat_map-append line_bytes now (then ++ last)
 
-abbrev pub piece_of : World → ScheduleEvent → List ℕ
-piece_of w event = lines_text (happens w event).lines
+pub refused : {E : Type 0} (a b c : Option (List ℕ)) (held : List ℕ) (ring : RingTable) (schedule rest later : List ScheduleEvent) (w : World) (event : ScheduleEvent) (e : E)
+    (r : Result (Unit {0}) E) → IsErrAnd r (λ x. x ≡ e) → rest ≡ event ∷ later → Replayed a b held ring schedule w rest →
+    WritesAll b c (held ++ piece_of w event) (Err e) → WritesAll a c (text_of ring schedule) r
+refused a b c held ring schedule rest later w event e r given is so_far written =
+    refused_then a b c held (held ++ piece_of w event) (piece_of w event) (text_from schedule (happens w event).world later) (text_from schedule w rest) (text_of ring schedule) e e r given
+    (one_event schedule rest later w event is) refl so_far written
 
-whole_with : (done : List ℕ) (ring : RingTable) (schedule rest later : List ScheduleEvent) (w : World) (event : ScheduleEvent) → rest ≡ event ∷ later →
-    done ++ text_from schedule w rest ≡ text_of ring schedule →
-    done ++ (piece_of w event ++ text_from schedule (happens w event).world later) ≡ text_of ring schedule
-whole_with done ring schedule rest later w event is whole =
-    ap (λ (l : List ℕ). done ++ l) (sym (one_event schedule rest later w event is)) ∙ whole
+pub one_more : (a b c : Option (List ℕ)) (held after : List ℕ) (ring : RingTable) (schedule rest later : List ScheduleEvent) (w next : World) (event : ScheduleEvent) →
+    rest ≡ event ∷ later → next ≡ (happens w event).world → Replayed a b held ring schedule w rest →
+    Handed b c (held ++ piece_of w event) after → Replayed a c after ring schedule next later
+one_more a b c held after ring schedule rest later w next event is there so_far handed =
+    rw there (goes_further a b c held (held ++ piece_of w event) (piece_of w event) (text_from schedule (happens w event).world later) (text_from schedule w rest) after (text_of ring schedule)
+    (one_event schedule rest later w event is) refl so_far handed)
 
-pub refused : {E : Type 0} (a b c : Option (List ℕ)) (ring : RingTable) (schedule rest later : List ScheduleEvent) (w : World) (event : ScheduleEvent) (e : E)
-    (r : Result (Unit {0}) E) → IsErrAnd r (λ x. x ≡ e) → rest ≡ event ∷ later → Replayed a b ring schedule w rest →
-    WritesAll b c (piece_of w event) (Err e) → WritesAll a c (text_of ring schedule) r
-refused a b c ring schedule rest later w event e (Ok u) given is so_far written = absurd given
-refused a b c ring schedule rest later w event e (Err x) given is so_far written =
-    goes_on a b c so_far.0 (piece_of w event) (text_from schedule (happens w event).world later) (text_of ring schedule) x so_far.1.taken
-    (rw given written) (whole_with so_far.0 ring schedule rest later w event is so_far.1.whole)
+-- what is left to add where no event is left
+last_left : (schedule rest : List ScheduleEvent) (w : World) (n : ℕ) → rest ≡ [] → n ≡ length schedule → text_from schedule w rest ≡ line_bytes (End n)
+last_left schedule rest w n none count =
+    ap (text_from schedule w) none ∙ ap (λ k. lines_text (End k ∷ [])) (sym count) ∙ append-nil (line_bytes (End n))
 
-pub one_more : {E : Type 0} (a b c : Option (List ℕ)) (ring : RingTable) (schedule rest later : List ScheduleEvent) (w after : World) (event : ScheduleEvent) →
-    rest ≡ event ∷ later → after ≡ (happens w event).world → Replayed a b ring schedule w rest →
-    WritesAll {E = E} b c (piece_of w event) (Ok tt) → Replayed a c ring schedule after later
-one_more a b c ring schedule rest later w after event is there so_far written =
-    let done = so_far.0 in
-    let piece = piece_of w event in (
-      done ++ piece,
-      record {
-        taken = Appends-trans a b c done piece so_far.1.taken (appended b c piece written);
-        whole = ap (λ (v : World). (done ++ piece) ++ text_from schedule v later) there
-            ∙ append_assoc done piece (text_from schedule (happens w event).world later)
-            ∙ whole_with done ring schedule rest later w event is so_far.1.whole;
-      },
-    )
+pub ends : {E : Type 0} (a b c : Option (List ℕ)) (held put : List ℕ) (ring : RingTable) (schedule rest : List ScheduleEvent) (w : World) (n : ℕ) (r : Result (Unit {0}) E) →
+    rest ≡ [] → n ≡ length schedule → Replayed a b held ring schedule w rest → put ≡ held ++ line_bytes (End n) → WritesAll b c put r → WritesAll a c (text_of ring schedule) r
+ends a b c held put ring schedule rest w n r none count so_far is written =
+    written_then a b c held put (text_from schedule w rest) (text_of ring schedule) r (is ∙ ap (λ (l : List ℕ). held ++ l) (sym (last_left schedule rest w n none count))) so_far written
 
-pub ends : {E : Type 0} (a b c : Option (List ℕ)) (ring : RingTable) (schedule rest : List ScheduleEvent) (w : World) (n : ℕ) (r : Result (Unit {0}) E) →
-    rest ≡ [] → n ≡ length schedule → Replayed a b ring schedule w rest → WritesAll b c (lines_text (End n ∷ [])) r → WritesAll a c (text_of ring schedule) r
-ends a b c ring schedule rest w n r none count so_far written =
-    let last : text_from schedule w rest ≡ lines_text (End n ∷ []) =
-    ap (text_from schedule w) none ∙ ap (λ k. lines_text (End k ∷ [])) (sym count) in
-    ends_with a b c so_far.0 (lines_text (End n ∷ [])) (text_of ring schedule) r so_far.1.taken written
-    (ap (λ (l : List ℕ). so_far.0 ++ l) (sym last) ∙ so_far.1.whole)
+-- all was written, whatever a refusal would be
+pub done_on : {E F : Type 0} (a b : Option (List ℕ)) (text : List ℕ) → WritesAll {E = E} a b text (Ok tt) → WritesAll {E = F} a b text (Ok tt)
+done_on a b text written = (written.0, record { front = written.1.front; taken = written.1.taken; all = written.1.all })
 
--- the event at an index, and those after it
-pub event_at : (items : List ScheduleEvent) (i : ℕ) (event : ScheduleEvent) → i < length items → event ≡ get_or items i event →
-    drop i items ≡ event ∷ drop (i + 1) items
-event_at items i event inside is =
-    drop-cons items i event inside ∙ ap (λ (e : ScheduleEvent). e ∷ drop (suc i) items) (sym is) ∙ ap (λ (k : ℕ). event ∷ drop k items) (sym (add-one i))
+-- the item at an index, and those after it
+pub item_at : {A : Type 0} (items : List A) (i : ℕ) (item : A) → i < length items → item ≡ get_or items i item → drop i items ≡ item ∷ drop (i + 1) items
+item_at {A = A} items i item inside is =
+    drop-cons items i item inside ∙ ap (λ (x : A). x ∷ drop (suc i) items) (sym is) ∙ ap (λ (k : ℕ). item ∷ drop k items) (sym (add-one i))
 
-pub none_at : (items : List ScheduleEvent) (i : ℕ) → length items ≤ i → drop i items ≡ []
+pub none_at : {A : Type 0} (items : List A) (i : ℕ) → length items ≤ i → drop i items ≡ []
 none_at items i all = grind (arith, common_steps)
 
 pub valid_after : (event : ScheduleEvent) (rest later : List ScheduleEvent) → rest ≡ event ∷ later → AllByRecursion MayHappen rest → MayHappen event × AllByRecursion MayHappen later

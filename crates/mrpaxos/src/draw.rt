@@ -1,14 +1,17 @@
 //! A schedule drawn from numbers.
 
-ghost use Rattle.std.specs.Prelude.{◌≡◌, List, IfOk, IfSome, IfNone, map, string_bytes};
-ghost use Rattle.mrpaxos.specs.Drawing.{IsDraw, draw_in, AnswersDraw, Draws, Printing, draw_text};
+ghost use Rattle.std.specs.Prelude.{◌≡◌, ◌++◌, List, IfSome, IfNone, map, string_bytes};
+ghost use Rattle.outside.specs.Counts.{CountsFault};
+ghost use Rattle.outside.specs.Writing.{WritesAll, HandsOn};
+ghost use Rattle.schedule.specs.Spelling.{event_text, schedule_text};
+ghost use Rattle.mrpaxos.specs.Drawing.{IsDraw, draw_in, AnswersDraw, Draws, Printing};
 
 use crate::status::{Status, Which};
 use crate::top::CONFIG;
 use mrp_config::{ConfigFault, Deployment};
-use mrp_types::{Memory, Octets};
-use outside::{Refused, Sink, Source, read_front, write_all};
-use schedule::{generate, write};
+use mrp_types::Octets;
+use outside::{Refused, Sink, Source, new_piece, read_front, write_all, write_piece};
+use schedule::{ScheduleEvent, generate, put_event};
 use std::alloc::Global;
 use text_lines::number_of_word;
 
@@ -90,20 +93,44 @@ fn print_draw<O: Sink>(alloc: Global, draw: Draw, bytes: &[u8], out: &mut O) -> 
         Err(ConfigFault::Memory) => return Status::Memory,
         Err(fault) => return Status::Config(fault),
     };
-    let Ok(text) = text_of(alloc, draw, &deployment) else {
+    let Ok(schedule) = generate(alloc, &deployment, draw.seed, draw.events) else {
         return Status::Memory;
     };
-    match write_all(out, text.bytes()) {
+    match write_events(alloc, schedule.items(), out) {
         Ok(()) => Status::Done,
         Err(Refused::Failed) => Status::Sink,
         Err(Refused::Memory) => Status::Memory,
     }
 }
 
-// The text of the schedule.
-fn text_of(alloc: Global, draw: Draw, deployment: &Deployment) -> Result<Octets, Memory>
-    ensures { IfOk result (λ text. text ≡ draw_text draw deployment.now) }
+// Writes the lines of the events. After a refusal a front of them was written.
+fn write_events<O: Sink>(
+    alloc: Global,
+    events: &[ScheduleEvent],
+    out: &mut O,
+) -> Result<(), Refused>
+    ensures written { WritesAll (O.taken out.old) (O.taken out.new) (schedule_text events.now) result }
+    ensures fault { CountsFault result (O.faults out.old) (O.faults out.new) }
 {
-    let schedule = generate(alloc, deployment, draw.seed, draw.events)?;
-    write(alloc, &schedule)
+    let mut text = new_piece(alloc)?;
+    for event in events {
+        write_event(alloc, event, &mut text, out)?;
+    }
+    write_all(out, text.bytes())
+}
+
+// Adds the line of an event to the text, of which a front is written.
+fn write_event<O: Sink>(
+    alloc: Global,
+    event: &ScheduleEvent,
+    text: &mut Octets,
+    out: &mut O,
+) -> Result<(), Refused>
+    ensures written { HandsOn (O.taken out.old) (O.taken out.new) (text.old ++ event_text event.now) text.new result }
+    ensures fault { CountsFault result (O.faults out.old) (O.faults out.new) }
+{
+    if put_event(text, event).is_err() {
+        return Err(Refused::Memory);
+    }
+    write_piece(alloc, out, text)
 }

@@ -2,7 +2,7 @@
 
 ghost use Rattle.std.specs.Prelude.{◌≡◌, ◌++◌, IfOk, OnOk};
 ghost use Rattle.std.specs.List.{AllByRecursion};
-ghost use Rattle.outside.specs.Writing.{WritesAll};
+ghost use Rattle.outside.specs.Writing.{WritesAll, HandsOn};
 ghost use Rattle.transcript.specs.Spelling.{lines_text};
 ghost use Rattle.world.specs.Ring.{IsRing};
 ghost use Rattle.world.specs.System.{trace, happens, MayHappen};
@@ -10,9 +10,9 @@ ghost use Rattle.mrpaxos.specs.Answers.{CountsSink, fault_of};
 
 use mrp_config::RingTable;
 use mrp_types::{Memory, Octets};
-use outside::{Refused, Sink, write_all};
+use outside::{Refused, Sink, new_piece, write_all, write_piece};
 use schedule::{Schedule, ScheduleEvent};
-use std::alloc::Global;
+use std::alloc::{AllocError, Global};
 use transcript::{Line, put_line};
 use world::World;
 
@@ -47,6 +47,17 @@ impl From<Memory> for ReplayFault {
     }
 }
 
+impl From<AllocError> for ReplayFault {
+    ghost use Rattle.std.specs.Prelude.{◌≡◌};
+    ghost use Rattle.mrpaxos.specs.declared.replay.ReplayFault.TheVariants.{Memory};
+
+    ghost from_gives = { λ _ fault. fault ≡ Memory };
+
+    fn from(_: AllocError) -> Self {
+        ReplayFault::Memory
+    }
+}
+
 /// Writes the lines of the schedule over a ring to the sink. After a refusal a front of them was written.
 pub fn replay<O: Sink>(
     alloc: Global,
@@ -60,46 +71,46 @@ pub fn replay<O: Sink>(
     ensures fault { CountsSink result (O.faults out.old) (O.faults out.new) }
 {
     let mut world = World::start(alloc, ring)?;
+    let mut text = new_piece(alloc)?;
     for event in schedule.items() {
-        replay_event(alloc, &mut world, event, out)?;
+        replay_event(alloc, &mut world, event, &mut text, out)?;
     }
     let events = schedule.items().len() as u64;
-    write_lines(alloc, std::slice::from_ref(&Line::End { events }), out)
-}
-
-// One event happens, and its lines are written.
-fn replay_event<O: Sink>(
-    alloc: Global,
-    world: &mut World,
-    event: &ScheduleEvent,
-    out: &mut O,
-) -> Result<(), ReplayFault>
-    requires { MayHappen event.now }
-    ensures world { OnOk result (world.new ≡ (happens world.old event.now).world) }
-    ensures written { WritesAll (O.taken out.old) (O.taken out.new) (lines_text (happens world.old event.now).lines) result }
-    ensures fault { CountsSink result (O.faults out.old) (O.faults out.new) }
-{
-    let lines = world.event(event)?;
-    write_lines(alloc, lines.items(), out)
-}
-
-// Writes some lines, as one piece where there are any.
-fn write_lines<O: Sink>(alloc: Global, lines: &[Line], out: &mut O) -> Result<(), ReplayFault>
-    ensures written { WritesAll (O.taken out.old) (O.taken out.new) (lines_text lines.now) result }
-    ensures fault { CountsSink result (O.faults out.old) (O.faults out.new) }
-{
-    let text = text_of(alloc, lines)?;
+    put_line(&mut text, &Line::End { events })?;
     write_all(out, text.bytes())?;
     Ok(())
 }
 
-// The text of some lines.
-fn text_of(alloc: Global, lines: &[Line]) -> Result<Octets, Memory>
-    ensures { IfOk result (λ text. text ≡ lines_text lines.now) }
+// One event happens, and its lines are added to the text; of the text a front is written.
+fn replay_event<O: Sink>(
+    alloc: Global,
+    world: &mut World,
+    event: &ScheduleEvent,
+    text: &mut Octets,
+    out: &mut O,
+) -> Result<(), ReplayFault>
+    requires { MayHappen event.now }
+    ensures world { OnOk result (world.new ≡ (happens world.old event.now).world) }
+    ensures written { HandsOn (O.taken out.old) (O.taken out.new) (text.old ++ lines_text (happens world.old event.now).lines) text.new result }
+    ensures fault { CountsSink result (O.faults out.old) (O.faults out.new) }
 {
-    let mut text = Octets::new(alloc);
+    let lines = world.event(event)?;
+    write_lines(alloc, lines.items(), text, out)
+}
+
+// Adds some lines to the text, of which a front is written.
+fn write_lines<O: Sink>(
+    alloc: Global,
+    lines: &[Line],
+    text: &mut Octets,
+    out: &mut O,
+) -> Result<(), ReplayFault>
+    ensures written { HandsOn (O.taken out.old) (O.taken out.new) (text.old ++ lines_text lines.now) text.new result }
+    ensures fault { CountsSink result (O.faults out.old) (O.faults out.new) }
+{
     for line in lines {
-        put_line(alloc, &mut text, line)?;
+        put_line(text, line)?;
+        write_piece(alloc, out, text)?;
     }
-    Ok(text)
+    Ok(())
 }

@@ -260,7 +260,6 @@ fn other_rings(rt: HostRuntime) -> Result<(), Fail> {
 fn failing_calls(rt: HostRuntime) -> Result<(), Fail> {
     let alloc = rt.alloc();
     let schedule = b"ask 0 append 0 6869\nflow 2\nflow 1\n";
-    let first = format!(in alloc; "learn 1 0 0 1 {V}\ndeliver 1 0 0\n")?;
     let no_config = Failing {
         config: &[0],
         ..NONE
@@ -270,16 +269,41 @@ fn failing_calls(rt: HostRuntime) -> Result<(), Fail> {
         ..NONE
     };
     let no_write = Failing { out: &[0], ..NONE };
-    let one_write = Failing { out: &[1], ..NONE };
-    for (failing, number, text, lines) in [
-        (no_config, 4, "source config", ""),
-        (no_input, 4, "source input", ""),
-        (no_write, 5, "sink", ""),
-        (one_write, 5, "sink", first.as_str()),
+    for (failing, number, text) in [
+        (no_config, 4, "source config"),
+        (no_input, 4, "source input"),
+        (no_write, 5, "sink"),
     ] {
         let ended = outcome(alloc, "replay", CONFIG, schedule, failing)?;
-        assert!(rt; ends_with(&ended, number, text, lines), "{text}: {ended:?}");
+        assert!(rt; ends_with(&ended, number, text, ""), "{text}: {ended:?}");
     }
+    Ok(())
+}
+
+// So often this text.
+fn repeated(alloc: Global, text: &[u8], times: u32) -> Result<Octets, Fail> {
+    let mut all = Octets::new(alloc);
+    for _turn in 0..times {
+        all.extend(text)?;
+    }
+    Ok(all)
+}
+
+// A line of 13 bytes for each event: the first piece ends with the 5,042nd of them.
+#[test]
+fn a_write_fails_in_mid_stream(rt: HostRuntime) -> Result<(), Fail> {
+    let alloc = rt.alloc();
+    let schedule = repeated(alloc, b"list 0\n", 6_000)?;
+    let one_write = Failing { out: &[1], ..NONE };
+    let ended = outcome(alloc, "replay", CONFIG, schedule.bytes(), one_write)?;
+    assert_eq!(rt; ended.number, 5);
+    let piece = repeated(alloc, b"frame 0 none\n", 5_042)?;
+    assert!(rt; ended.lines.bytes() == piece.bytes());
+    let ended = outcome(alloc, "replay", CONFIG, schedule.bytes(), NONE)?;
+    assert_eq!(rt; ended.number, 0);
+    let mut whole = repeated(alloc, b"frame 0 none\n", 6_000)?;
+    whole.extend(b"end 6000\n")?;
+    assert!(rt; ended.lines.bytes() == whole.bytes());
     Ok(())
 }
 

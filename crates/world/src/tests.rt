@@ -100,7 +100,7 @@ fn lines_of(
     for happens in events {
         let event = event_of(alloc, *happens)?;
         for line in world.event(&event)?.items() {
-            put_line(alloc, &mut printed, line)?;
+            put_line(&mut printed, line)?;
         }
     }
     Ok((printed, world.sent()))
