@@ -1,12 +1,12 @@
 -- How a call of several operations goes by all of them.
-use Rattle.std.proofs.Common.{◌≡◌, ℕ, suc, Bool, true, false, List, [], ◌∷◌, ◌++◌, take, Option, Some, refl, ap, sym, ◌∙◌, subst}
+use Rattle.std.proofs.Common.{◌≡◌, ℕ, suc, Bool, true, false, List, [], ◌∷◌, ◌++◌, take, Option, Some, refl, ap, sym, ◌∙◌, subst, Result, Ok, Err, IsErrAnd}
 use Rattle.std.proofs.lemmas.List.{append-nil, append_assoc}
 use Rattle.disk_model.specs.declared.area.Refused.{Refused}
 use Rattle.disk_model.specs.declared.area.Refused.TheVariants.{Failed, Memory}
 use Rattle.disk_model.specs.declared.call.Call.{Call}
 use Rattle.disk_model.specs.Calls.{Told, and_then}
 use Rattle.disk_model.specs.Sim.{Sim}
-use Rattle.disk_model.specs.Running.{Op, Asks, Reads, Does, Ending, Passed, Stopped, refused_ending, falls_on, op_passed, op_failed, GoesAt, Ran, ran, by_fault, changes_in, Came, GoesBy}
+use Rattle.disk_model.specs.Running.{Op, Asks, Reads, Does, Ending, Passed, Stopped, Wanted, ending, refused_ending, falls_on, op_passed, op_failed, GoesAt, Goes, Ran, ran, by_fault, changes_in, Came, GoesBy}
 
 -- ---- one operation and then others
 
@@ -57,16 +57,6 @@ pub come_first : (xs ys : List Op) (d : Sim) (now : Option Sim) (refused : Refus
 unfolding go_on
 come_first xs ys d now Failed first = subst (λ r. Came r now Stopped) (sym (ran-append xs ys d)) (subst (λ b. Came (go_on (ran xs d) ys b) now Stopped) (sym first.0) first)
 come_first xs ys d now Memory first = tt
-
--- ---- two calls, one after the other
-
--- both go by their operations
-pub both_go : (xs : Told → List Op) (ys : List Op) (old mid now : Option Sim) (e : Ending) → GoesBy xs old mid Passed → GoesBy (λ t. ys) mid now e → GoesBy (λ t. xs t ++ ys) old now e
-both_go xs ys old mid now e first second d is = then_come (xs d.told) ys d mid now e (first d is) (second (ran (xs d.told) d).disk (first d is).1)
-
--- the first was refused
-pub first_stopped : (xs ys : Told → List Op) (old now : Option Sim) (refused : Refused) → GoesBy xs old now (refused_ending refused) → GoesBy (λ t. xs t ++ ys t) old now (refused_ending refused)
-first_stopped xs ys old now refused first d is = come_first (xs d.told) (ys d.told) d now refused (first d is)
 
 -- ---- what they have changed
 
@@ -130,3 +120,47 @@ pub some_told : (ops : List Op) (d : Sim) → (j : ℕ) × ((ran ops d).disk.tol
 unfolding ToldSome ran
 some_told [] d = (0, none_told d.told)
 some_told (op ∷ ops) d = some_by op ops d (falls_on d.trouble.plan op) (some_told ops (op_passed op d))
+
+-- ---- calls, one after another
+
+-- one operation is a list of one
+pub one_goes : (op : Op) (old now : Option Sim) (e : Ending) → Goes op old now e → GoesBy (λ t. op ∷ []) old now e
+one_goes op old now Passed goes d is = let here = goes d is in one_more op [] d now now Passed here (no_more (op_passed op d) now here.disk)
+one_goes op old now Stopped goes d is = last_one op [] d now Failed (goes d is)
+one_goes op old now Wanted goes d is = tt
+
+-- one operation has passed, and then the others
+pub step_goes : (op : Op) (ops : List Op) (old mid now : Option Sim) (e : Ending) → Goes op old mid Passed → GoesBy (λ t. ops) mid now e → GoesBy (λ t. op ∷ ops) old now e
+step_goes op ops old mid now e first others d is = let here = first d is in one_more op ops d mid now e here (others (op_passed op d) here.disk)
+
+-- one operation was refused, and no other follows
+pub last_goes : (op : Op) (ops : List Op) (old now : Option Sim) (refused : Refused) → Goes op old now (refused_ending refused) → GoesBy (λ t. op ∷ ops) old now (refused_ending refused)
+last_goes op ops old now refused goes d is = last_one op ops d now refused (goes d is)
+
+-- the first has passed, and the second goes by what was told then
+pub all_go : (xs ys : Told → List Op) (old mid now : Option Sim) (e : Ending) → GoesBy xs old mid Passed → GoesBy ys mid now e → GoesBy (λ t. xs t ++ ys (and_then t (changes_in (xs t)))) old now e
+all_go xs ys old mid now e first second d is =
+    let here = first d is in
+    then_come (xs d.told) (ys (and_then d.told (changes_in (xs d.told)))) d mid now e here
+    (subst (λ t. Came (ran (ys t) (ran (xs d.told) d).disk) now e) (all_told (xs d.told) d here.0) (second (ran (xs d.told) d).disk here.1))
+
+-- the same where the second doesn't depend on what was told
+pub both_go : (xs : Told → List Op) (ys : List Op) (old mid now : Option Sim) (e : Ending) → GoesBy xs old mid Passed → GoesBy (λ t. ys) mid now e → GoesBy (λ t. xs t ++ ys) old now e
+both_go xs ys old mid now e first second = all_go xs (λ t. ys) old mid now e first second
+
+-- the first was refused
+pub first_stopped : (xs ys : Told → List Op) (old now : Option Sim) (refused : Refused) → GoesBy xs old now (refused_ending refused) → GoesBy (λ t. xs t ++ ys t) old now (refused_ending refused)
+first_stopped xs ys old now refused first d is = come_first (xs d.told) (ys d.told) d now refused (first d is)
+
+-- the same operations, of what a disk in memory has told
+pub same_ops : (xs ys : Told → List Op) (old now : Option Sim) (e : Ending) → ((d : Sim) → old ≡ Some d → xs d.told ≡ ys d.told) → GoesBy xs old now e → GoesBy ys old now e
+same_ops xs ys old now e same goes d is = subst (λ ops. Came (ran ops d) now e) (same d is) (goes d is)
+
+-- no operation at all
+pub none_goes : (old now : Option Sim) → now ≡ old → GoesBy (λ t. []) old now Passed
+none_goes old now same d is = no_more d now (same ∙ is)
+
+-- what was refused is answered
+pub refused_on : {T : Type 0} (ops : Told → List Op) (old now : Option Sim) (refused : Refused) (r : Result T Refused) → IsErrAnd r (λ e. e ≡ refused) → GoesBy ops old now (refused_ending refused) → GoesBy ops old now (ending r)
+refused_on ops old now refused (Ok x) is goes = absurd is
+refused_on ops old now refused (Err e) is goes = subst (λ x. GoesBy ops old now (refused_ending x)) (sym is) goes

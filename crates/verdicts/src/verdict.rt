@@ -3,6 +3,7 @@
 use crate::bytes_of::{bytes_of_hex, text_of_config};
 use crate::journals::{areas_of, compacted, found, opened};
 use crate::lines::{events_verdict, line_verdict};
+use crate::stops::stops_verdict;
 use crate::texts::Texts;
 use command_codec::{CodecFault, read_batch, read_command, read_reply};
 use frames::FrameFault;
@@ -31,6 +32,9 @@ pub fn verdict(alloc: Global, texts: &Texts, case: &str) -> Result<String, Alloc
             Some(areas) => journal_verdict(alloc, word, areas),
             None => String::from_str(alloc, "no case"),
         };
+    }
+    if word == "stops" {
+        return stops_verdict(alloc, rest);
     }
     match bytes_of_hex(alloc, rest)? {
         Some(bytes) => bytes_verdict(alloc, word, bytes.as_slice()),
