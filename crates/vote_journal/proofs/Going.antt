@@ -5,14 +5,14 @@ use Rattle.mrp_types.specs.declared.id.NodeId.{NodeId}
 use Rattle.disk_model.specs.declared.area.Area.{Area}
 use Rattle.disk_model.specs.declared.area.Refused.TheVariants.{Failed}
 use Rattle.disk_model.specs.Calls.{Told, reads}
-use Rattle.disk_model.specs.Running.{Op, Ending, Passed, Stopped, GoesBy}
+use Rattle.disk_model.specs.Running.{Op, Ending, Passed, GoesBy}
 use Rattle.disk_model.specs.Sim.{Sim}
 use Rattle.disk_model.proofs.Running.{both_go, first_stopped, same_ops, none_goes}
 use Rattle.gate_area.specs.declared.pair.Pair.TheVariants.{Journal as JournalPair}
 use Rattle.gate_area.specs.Standing.{stands}
 use Rattle.gate_log.specs.declared.fault.LogFault.{LogFault}
 use Rattle.gate_log.specs.declared.fault.LogFault.TheVariants as logs
-use Rattle.gate_log.specs.Journal.{Log, IsFound, log_at, records_in}
+use Rattle.gate_log.specs.Journal.{Log, IsFound, records_in}
 use Rattle.gate_log.specs.Moments.{Finds}
 use Rattle.gate_log.specs.Operations.{fault_ending, append_ops, compact_ops, open_ops}
 use Rattle.vote_state.specs.declared.change.Change.{Change}

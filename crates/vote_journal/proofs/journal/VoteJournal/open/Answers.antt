@@ -16,9 +16,8 @@ use Rattle.vote_journal.specs.Faults.{opened_as}
 use Rattle.vote_journal.specs.Journal.{OpensBy, OpenLeaves, state_of, opened_state, next_epoch, epoch_record, judged_calls}
 use Rattle.vote_journal.proofs.Openings.{with_room, within, judged_are, all_made, first_made, then_made, log_opened, no_log, refused, no_state, no_epoch, no_room, since_as, same_opens, epoch_leaves, opened_stands}
 use Rattle.disk_model.specs.Running.{Passed}
-use Rattle.disk_model.specs.Sim.{Sim}
 use Rattle.gate_log.specs.Operations.{fault_ending}
-use Rattle.vote_journal.specs.Operations.{judged_ops, epoch_ops, state_ops, opening_ops}
+use Rattle.vote_journal.specs.Operations.{epoch_ops, state_ops, opening_ops}
 use Rattle.vote_journal.proofs.Going.{log_unopened, found_ops, found_refused, epoch_refused, epoch_goes}
 use Rattle.std.specs.declared.alloc.Global.{Global}
 use Rattle.vote_journal.proofs.journal.VoteJournal.open.Goals as goal
