@@ -20,11 +20,10 @@ mod bytes_of;
 mod journals;
 mod lines;
 mod stops;
-mod texts;
-mod verdict;
-
 #[cfg(test)]
 mod tests;
+mod texts;
+mod verdict;
 
 use std::io::{BufRead, BufReader};
 use texts::Texts;

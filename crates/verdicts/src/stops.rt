@@ -36,6 +36,7 @@ enum End {
 }
 
 // Something has failed before the fault was set.
+#[derive(Drop)]
 struct Spoilt;
 
 impl From<Refused> for Spoilt {
@@ -162,32 +163,32 @@ fn set(disk: &mut SimDisk, fault: Fault)
     }
 }
 
-fn end_of<T: Drop>(result: Result<T, Refused>) -> End {
-    match result {
+fn end_of<T: Drop>(answer: Result<T, Refused>) -> End {
+    match answer {
         Ok(_) => End::Passed,
         Err(Refused::Failed) => End::Stopped,
         Err(_) => End::Other,
     }
 }
 
-fn log_end<T: Drop>(result: Result<T, LogFault>) -> End {
-    match result {
+fn log_end<T: Drop>(answer: Result<T, LogFault>) -> End {
+    match answer {
         Ok(_) => End::Passed,
         Err(LogFault::Disk) => End::Stopped,
         Err(_) => End::Other,
     }
 }
 
-fn open_end<T: Drop>(result: Result<T, OpenFault>) -> End {
-    match result {
+fn open_end<T: Drop>(answer: Result<T, OpenFault>) -> End {
+    match answer {
         Ok(_) => End::Passed,
         Err(OpenFault::Disk) => End::Stopped,
         Err(_) => End::Other,
     }
 }
 
-fn journal_end<T: Drop>(result: Result<T, JournalFault>) -> End {
-    match result {
+fn journal_end<T: Drop>(answer: Result<T, JournalFault>) -> End {
+    match answer {
         Ok(_) => End::Passed,
         Err(JournalFault::Disk) => End::Stopped,
         Err(_) => End::Other,
