@@ -1,7 +1,6 @@
 -- Openings and records in a row on one disk, on which a fault was set before.
 use Rattle.std.specs.Prelude.{ℕ, zero, suc, ◌+◌, Bool, true, false, List, [], ◌∷◌, ◌++◌, map, Option, Some, None, Result, Ok, Err}
 use Rattle.mrp_types.specs.declared.id.NodeId.{NodeId}
-use Rattle.mrp_types.specs.declared.id.RingId.{RingId}
 use Rattle.disk_model.specs.declared.area.Area.{Area}
 use Rattle.disk_model.specs.declared.areas.Areas.{Areas}
 use Rattle.disk_model.specs.declared.plan.Plan.{Plan}
@@ -25,7 +24,7 @@ pub data Deed : Type 0 where
   Trims : ℕ → Deed
 
 abbrev pub trim_of : ℕ → List Change
-trim_of inst = Trim (record { field-0 = 1 }) inst ∷ []
+trim_of inst = Trim (record { 0 = 1 }) inst ∷ []
 
 -- how many have passed, and why the next one has stopped the node
 abbrev pub Fate : Type 0
@@ -57,7 +56,7 @@ opens_on n more d found = opens_then n more (ran found.work d) found.result
 
 abbrev pub deeds : List Deed → Option Journal → ℕ → Sim → Fate
 deeds [] journal n d = (n, None)
-deeds (Opens ∷ rest) journal n d = opens_on n (λ next disk. deeds rest (Some next) (n + 1) disk) d (opening_at (record { field-0 = 0 }) 1048576 (reads d.told))
+deeds (Opens ∷ rest) journal n d = opens_on n (λ next disk. deeds rest (Some next) (n + 1) disk) d (opening_at (record { 0 = 0 }) 1048576 (reads d.told))
 deeds (Trims inst ∷ rest) None n d = (n, None)
 deeds (Trims inst ∷ rest) (Some journal) n d = go_on n (λ disk. deeds rest (Some (recorded journal (trim_of inst))) (n + 1) disk) (ran (record_ops journal (trim_of inst)) d)
 
