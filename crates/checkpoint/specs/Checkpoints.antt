@@ -10,7 +10,9 @@ use Rattle.disk_model.specs.Areas.{bytes_of}
 use Rattle.disk_model.specs.Calls.{Told}
 use Rattle.gate_area.specs.declared.pair.Pair.TheVariants.{Check}
 use Rattle.gate_area.specs.Standing.{stands}
-use Rattle.gate_log.specs.Journal.{renew_calls}
+use Rattle.gate_area.specs.Gate.{renew_calls}
+use Rattle.gate_area.specs.Operations.{renew_ops}
+use Rattle.disk_model.specs.Running.{Op}
 use Rattle.command_codec.specs.declared.fault.CodecFault.{CodecFault}
 use Rattle.command_codec.specs.Reader.{Reader, number_at, bytes_at, follow, both, shown}
 use Rattle.frames.specs.Spelling.{tuple_bytes}
@@ -94,6 +96,10 @@ next_area (Some Check3) = Check2
 -- the area that doesn't stand is retired and founded with the checkpoint and the next generation
 abbrev pub save_calls : Checkpoints → List (RingId × ℕ) → List ℕ → Told → List Call
 save_calls checkpoints tuple state = renew_calls (next_area checkpoints.area) (checkpoint_body (checkpoints.generation + 1) tuple state)
+
+-- all operations of a save
+abbrev pub save_ops : Checkpoints → List (RingId × ℕ) → List ℕ → Told → List Op
+save_ops checkpoints tuple state = renew_ops (next_area checkpoints.area) (checkpoint_body (checkpoints.generation + 1) tuple state)
 
 -- the pair once that is done; the checkpoint is of format 2
 abbrev pub saved : Checkpoints → List (RingId × ℕ) → List ℕ → Checkpoints

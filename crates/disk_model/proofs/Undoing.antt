@@ -1,5 +1,6 @@
 -- What is taken back is what was there before.
-use Rattle.std.proofs.Common.{◌≡◌, ℕ, ◌+◌, List, [], ◌∷◌, ◌++◌, length, take, drop, refl, ap, subst, ◌∙◌, inl, inr, arith, length-append, length-take}
+use Rattle.std.proofs.Common.{◌≡◌, ℕ, ◌+◌, List, [], ◌∷◌, ◌++◌, length, take, drop, refl, ap, subst, ◌∙◌, inl, inr, arith, length-append, length-take, Result, Ok, Err, OnOk, Bool, true, false, sym, if◌then◌else◌}
+use Rattle.std.specs.Result.{is_err, is_ok}
 use Rattle.std.proofs.Math.Seq.{drop-append-add, drop-append_seam, take-append-add}
 use Rattle.std.proofs.lemmas.Bool.{cases_lt}
 use Rattle.std.proofs.lemmas.List.{take_all, drop_all, take_at, drop_at, take-append-drop}
@@ -130,3 +131,13 @@ pub one_call_more : (start begins : Areas) (old calls : List Call) (trouble next
     sim_of begins calls next ≡ passed_call d call
 one_call_more start begins old calls trouble next d call view same more passes =
     cc
+
+-- what a call that gave no error brought about
+pub gave : {T E P : Type 0} (r : Result T E) (b : Bool) → b ≡ is_err r → b ≡ false → OnOk r P → P
+gave (Ok x) b test none here = here
+gave (Err e) b test none here = absurd (let no : false ≡ true = sym none ∙ test in cc)
+
+-- the same of a call that says what it leaves in both cases
+pub chose : {T E A : Type 0} (r : Result T E) (b : Bool) (x y now : A) → b ≡ is_err r → b ≡ false → now ≡ (if is_ok r then x else y) → now ≡ x
+chose (Ok v) b x y now test none here = here
+chose (Err e) b x y now test none here = absurd (let no : false ≡ true = sym none ∙ test in cc)

@@ -1,5 +1,5 @@
 -- Why a call of a disk is refused.
-use Rattle.std.specs.Prelude.{◌≡◌, ◌≤◌, ◌+◌, ◌-◌, ◌^◌, ℕ, List, length, take, drop, min, Bool, true, false, ◌||◌, Option, None, Some, zero, suc, Result, Ok, Err, OnOk, IsErrOf}
+use Rattle.std.specs.Prelude.{◌≡◌, ◌≤◌, ◌+◌, ◌-◌, ◌^◌, ℕ, List, length, take, drop, min, Bool, true, false, ◌||◌, Option, None, Some, zero, suc, Result, OnOk, IsErrOf}
 use Rattle.disk_model.specs.declared.area.Refused.{Refused}
 use Rattle.disk_model.specs.declared.area.Refused.TheVariants.{Failed, Memory}
 use Rattle.disk_model.specs.declared.plan.Plan.{Plan}
@@ -14,6 +14,13 @@ pub record Causes {T : Type 0} (before now : ℕ) (result : Result T Refused) : 
   pub later : before ≤ now
   pub failed : IsErrOf result Failed → Rose before now
   pub memory : IsErrOf result Memory → now ≡ before
+  pub kept : OnOk result (now ≡ before)
+
+-- `Memory` comes only where the count of wants rose, and nothing else raises it
+pub record Wants {T : Type 0} (before now : ℕ) (result : Result T Refused) : Type 0 where
+  pub later : before ≤ now
+  pub memory : IsErrOf result Memory → Rose before now
+  pub failed : IsErrOf result Failed → now ≡ before
   pub kept : OnOk result (now ≡ before)
 
 -- a read of a file from a position gives its bytes there, fewer than were asked only at the file's end
@@ -69,39 +76,18 @@ read_failed p = record { fuse = p.fuse; fail = p.fail; fail_read = spent p.fail_
 abbrev pub len_failed : Plan → Plan
 len_failed p = p
 
-abbrev pub is_failed : {T : Type 0} → Result T Refused → Bool
-is_failed (Ok _) = false
-is_failed (Err Failed) = true
-is_failed (Err Memory) = false
-
--- what is so after a call, by its result
-abbrev pub by_result : {T X : Type 0} → X → X → X → Result T Refused → X
-by_result old passed failed (Ok _) = passed
-by_result old passed failed (Err Failed) = failed
-by_result old passed failed (Err Memory) = old
-
--- Where a disk tells its plan of faults, the call fails exactly where the plan falls on it, and the plan goes on.
-pub record Foretold {T : Type 0} (falls_on : Plan → Bool) (passes fails : Plan → Plan) (p : Plan) (new : Option Plan) (result : Result T Refused) : Type 0 where
-  pub exactly : is_failed result ≡ falls_on p
-  pub plan : new ≡ Some (by_result p (passes p) (fails p) result)
-
-abbrev pub ForetoldChange : {T : Type 0} → Option Plan → Option Plan → Result T Refused → Type 0
-ForetoldChange old new result = (p : Plan) → old ≡ Some p → Foretold falls_on_change change_passed change_failed p new result
-
-abbrev pub ForetoldRead : {T : Type 0} → Option Plan → Option Plan → Result T Refused → Type 0
-ForetoldRead old new result = (p : Plan) → old ≡ Some p → Foretold falls_on_read read_passed read_failed p new result
-
-abbrev pub ForetoldLen : {T : Type 0} → Option Plan → Option Plan → Result T Refused → Type 0
-ForetoldLen old new result = (p : Plan) → old ≡ Some p → Foretold falls_on_len len_passed len_failed p new result
-
 -- the troubles of a disk after a call on which its plan fell
 abbrev pub troubled : (Plan → Plan) → Trouble → Trouble
-troubled fails t = record { plan = fails t.plan; stopped = t.stopped || falls t.plan.fuse; faults = min (t.faults + 1) (2 ^ 64 - 1) }
+troubled fails t = record { plan = fails t.plan; stopped = t.stopped || falls t.plan.fuse; faults = min (t.faults + 1) (2 ^ 64 - 1); wants = t.wants }
 
 -- and after one that passed
 abbrev pub untroubled : (Plan → Plan) → Trouble → Trouble
-untroubled passes t = record { plan = passes t.plan; stopped = t.stopped; faults = t.faults }
+untroubled passes t = record { plan = passes t.plan; stopped = t.stopped; faults = t.faults; wants = t.wants }
+
+-- and after one that found no memory
+abbrev pub wanting : Trouble → Trouble
+wanting t = record { plan = t.plan; stopped = t.stopped; faults = t.faults; wants = min (t.wants + 1) (2 ^ 64 - 1) }
 
 -- a disk without any
 abbrev pub no_trouble : Trouble
-no_trouble = record { plan = record { fuse = None; fail = None; fail_read = None }; stopped = false; faults = 0 }
+no_trouble = record { plan = record { fuse = None; fail = None; fail_read = None }; stopped = false; faults = 0; wants = 0 }

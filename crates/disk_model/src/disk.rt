@@ -1,9 +1,10 @@
 //! The disk as the layers above see it.
-ghost use Rattle.std.specs.Prelude.{◌≡◌, ◌≤◌, ◌+◌, ℕ, Bool, Option, [], ◌∷◌, length, OnOk, OnErr, IfOk};
+ghost use Rattle.std.specs.Prelude.{◌≡◌, ◌≤◌, ◌+◌, ℕ, Bool, Option, Some, [], ◌∷◌, length, OnOk, OnErr, IfOk};
 ghost use Rattle.disk_model.specs.Calls.{Told, Tells, followed, area_bytes};
-ghost use Rattle.disk_model.specs.Causes.{Causes, GivesBytes, ForetoldChange, ForetoldRead, ForetoldLen};
+ghost use Rattle.disk_model.specs.Causes.{Causes, GivesBytes, Wants};
 ghost use Rattle.disk_model.specs.declared.call.Call.TheVariants.{Write, Cut, Sync};
-ghost use Rattle.disk_model.specs.declared.plan.Plan.{Plan};
+ghost use Rattle.disk_model.specs.Running.{Asks, Does, Goes, Reads, ending};
+ghost use Rattle.disk_model.specs.Sim.{Sim};
 
 use crate::{Area, Refused};
 
@@ -18,19 +19,23 @@ pub trait Disk {
     /// Whether the disk holds what it tells.
     ghost honest: { Self → Bool };
 
-    /// Which calls are to fail, where the disk tells it.
-    ghost plan: { Self → Option Plan };
+    /// The disk in memory that it is, where it is one: its areas and calls, and which calls are to fail.
+    ghost memory: { Self → Option Sim };
 
     /// How many calls have failed.
     ghost faults: { Self → ℕ };
+
+    /// How many calls have found no memory.
+    ghost wants: { Self → ℕ };
 
     /// The length of an area.
     fn len(&mut self, area: Area) -> Result<u64, Refused>
         ensures told { told self.new ≡ told self.old }
         ensures honest { honest self.new ≡ honest self.old }
         ensures length { (t : Told) → Tells (told self.old) (honest self.old) t → IfOk result (λ n. n ≡ length (area_bytes area t)) }
-        ensures plan { ForetoldLen (plan self.old) (plan self.new) result }
-        ensures causes { Causes (faults self.old) (faults self.new) result };
+        ensures goes { Goes Asks (memory self.old) (memory self.new) (ending result) }
+        ensures causes { Causes (faults self.old) (faults self.new) result }
+        ensures wants { Wants (wants self.old) (wants self.new) result };
 
     /// Reads bytes of an area from a position on, and says how many: fewer than asked only at the area's end.
     fn read(&mut self, area: Area, at: u64, into: &mut [u8]) -> Result<usize, Refused>
@@ -38,8 +43,9 @@ pub trait Disk {
         ensures honest { honest self.new ≡ honest self.old }
         ensures within { IfOk result (λ n. n ≤ length into.new) }
         ensures bytes { (t : Told) → Tells (told self.old) (honest self.old) t → IfOk result (λ n. GivesBytes (area_bytes area t) at n into.new) }
-        ensures plan { ForetoldRead (plan self.old) (plan self.new) result }
-        ensures causes { Causes (faults self.old) (faults self.new) result };
+        ensures goes { Goes Reads (memory self.old) (memory self.new) (ending result) }
+        ensures causes { Causes (faults self.old) (faults self.new) result }
+        ensures wants { Wants (wants self.old) (wants self.new) result };
 
     /// Writes over what is there from a position on, and past the area's end.
     fn write_at(&mut self, area: Area, at: u64, from: &[u8]) -> Result<(), Refused>
@@ -47,8 +53,9 @@ pub trait Disk {
         ensures told { OnOk result (told self.new ≡ followed (told self.old) (Write area at from.now ∷ [])) }
         ensures untold { OnErr result (told self.new ≡ told self.old) }
         ensures honest { honest self.new ≡ honest self.old }
-        ensures plan { ForetoldChange (plan self.old) (plan self.new) result }
-        ensures causes { Causes (faults self.old) (faults self.new) result };
+        ensures goes { Goes (Does (Write area at from.now)) (memory self.old) (memory self.new) (ending result) }
+        ensures causes { Causes (faults self.old) (faults self.new) result }
+        ensures wants { Wants (wants self.old) (wants self.new) result };
 
     /// Cuts an area to a length.
     fn cut(&mut self, area: Area, len: u64) -> Result<(), Refused>
@@ -56,14 +63,19 @@ pub trait Disk {
         ensures told { OnOk result (told self.new ≡ followed (told self.old) (Cut area len ∷ [])) }
         ensures untold { OnErr result (told self.new ≡ told self.old) }
         ensures honest { honest self.new ≡ honest self.old }
-        ensures plan { ForetoldChange (plan self.old) (plan self.new) result }
-        ensures causes { Causes (faults self.old) (faults self.new) result };
+        ensures goes { Goes (Does (Cut area len)) (memory self.old) (memory self.new) (ending result) }
+        ensures causes { Causes (faults self.old) (faults self.new) result }
+        ensures wants { Wants (wants self.old) (wants self.new) result };
 
     /// Keeps all that was written: a crash after it leaves what a read gives.
     fn sync(&mut self) -> Result<(), Refused>
         ensures told { OnOk result (told self.new ≡ followed (told self.old) (Sync ∷ [])) }
         ensures untold { OnErr result (told self.new ≡ told self.old) }
         ensures honest { honest self.new ≡ honest self.old }
-        ensures plan { ForetoldChange (plan self.old) (plan self.new) result }
-        ensures causes { Causes (faults self.old) (faults self.new) result };
+        ensures goes { Goes (Does Sync) (memory self.old) (memory self.new) (ending result) }
+        ensures causes { Causes (faults self.old) (faults self.new) result }
+        ensures wants { Wants (wants self.old) (wants self.new) result };
+
+    /// What it tells is what the disk in memory holds.
+    ghost tells: { (d : Self) (s : Sim) → memory d ≡ Some s → Tells (told d) (honest d) s.told };
 }

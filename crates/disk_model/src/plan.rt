@@ -1,5 +1,8 @@
 //! Which calls of a disk in memory are to fail.
 ghost use Rattle.std.specs.Prelude.{◌≡◌, ◌≤◌, None, Some, true, false};
+ghost use Rattle.disk_model.specs.declared.area.Refused.TheVariants.{Memory};
+
+use crate::Refused;
 
 /// After how many calls that pass a fault comes; none where there is no number. `fuse` and `fail` count
 /// the calls that write, cut or sync, `fail_read` counts reads. A fuse that has burnt down fails each
@@ -11,16 +14,17 @@ pub struct Plan {
     pub fail_read: Option<u32>,
 }
 
-/// A plan, whether its fuse has stopped a call, and how many calls have failed.
+/// A plan, whether its fuse has stopped a call, how many calls have failed, and how many have found no memory.
 #[derive(Drop, Debug)]
 pub struct Trouble {
     pub plan: Plan,
     pub stopped: bool,
     pub faults: u64,
+    pub wants: u64,
 }
 
 impl Trouble {
-    ghost use Rattle.disk_model.specs.Causes.{no_trouble, falls_on_change, falls_on_read, falls_on_len, change_passed, read_passed, change_failed, read_failed, len_failed, troubled, untroubled};
+    ghost use Rattle.disk_model.specs.Causes.{no_trouble, falls_on_change, falls_on_read, falls_on_len, change_passed, read_passed, change_failed, read_failed, len_failed, troubled, untroubled, wanting};
 
     /// No call is to fail, and none has.
     pub fn none() -> Trouble
@@ -34,6 +38,7 @@ impl Trouble {
             },
             stopped: false,
             faults: 0,
+            wants: 0,
         }
     }
 
@@ -97,6 +102,16 @@ impl Trouble {
         ensures later { self.old.faults ≤ self.new.faults }
     {
         self.count();
+    }
+
+    /// A call has found no memory, and this is its answer.
+    pub fn want(&mut self) -> Refused
+        ensures after { self.new ≡ wanting self.old }
+        ensures answer { result ≡ Memory }
+        ensures later { self.old.wants ≤ self.new.wants }
+    {
+        self.wants = self.wants.saturating_add(1);
+        Refused::Memory
     }
 
     // A call of any kind has failed.

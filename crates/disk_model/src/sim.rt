@@ -1,12 +1,15 @@
 //! A disk in memory, which can be told to fail and to crash.
-ghost use Rattle.std.specs.Prelude.{◌≡◌, ◌≤◌, ◌<◌, ◌+◌, ◌++◌, [], ◌∷◌, length, take, drop, min, None, Some, true, false, IfOk, OnOk, OnErr, IsErrOf};
+ghost use Rattle.std.specs.Prelude.{◌≡◌, ◌≤◌, ◌<◌, ◌+◌, ◌++◌, [], ◌∷◌, length, take, drop, min, None, Some, true, false, IfOk, OnOk, OnErr, IsErrOf, refl};
+ghost use Rattle.std.proofs.Common.{ap};
+ghost use Rattle.std.specs.Option.{option_map};
 ghost use Rattle.disk_model.specs.Areas.{bytes_of, with_bytes};
 ghost use Rattle.disk_model.specs.Calls.{Told, Tells, and_then, begun, followed, area_bytes, reads, kept, IsImage, IsSettled};
-ghost use Rattle.disk_model.specs.Causes.{Causes, GivesBytes, ForetoldChange, ForetoldRead, ForetoldLen, is_failed, falls_on_change, falls_on_read, falls_on_len};
+ghost use Rattle.disk_model.specs.Causes.{Causes, GivesBytes, Wants};
 ghost use Rattle.disk_model.specs.Crash.{left_of, left_by};
-ghost use Rattle.disk_model.specs.Sim.{Sim, fresh, areas_of, after_change, after_read, after_len};
+ghost use Rattle.disk_model.specs.Running.{Asks, Does, Goes, Reads, after_op, ending, falls_on, is_stopped};
+ghost use Rattle.disk_model.specs.Sim.{Sim, fresh, areas_of};
 ghost use Rattle.disk_model.specs.Steps.{written};
-ghost use Rattle.disk_model.specs.Undoing.{undo_of_write};
+ghost use Rattle.disk_model.specs.Undoing.{undo_of_cut, undo_of_write};
 ghost use Rattle.disk_model.specs.declared.area.Refused.TheVariants.{Failed, Memory};
 ghost use Rattle.disk_model.specs.declared.area.Area.TheVariants.{Journal0, Journal1, Check2, Check3};
 ghost use Rattle.disk_model.specs.declared.call.Call.TheVariants.{Write, Cut, Sync};
@@ -171,14 +174,19 @@ impl Disk for SimDisk {
 
     ghost honest = { λ d. true };
 
-    ghost plan = { λ d. Some d.trouble.plan };
+    ghost memory = { λ d. Some d };
 
     ghost faults = { λ d. d.trouble.faults };
 
+    ghost wants = { λ d. d.trouble.wants };
+
+    ghost tells = { λ d s is. record { honest = refl; told = ap (option_map (λ (x : Sim). x.told)) is } };
+
     fn len(&mut self, area: Area) -> Result<u64, Refused>
-        ensures after { self.new ≡ after_len self.old result }
-        ensures exactly { is_failed result ≡ falls_on_len self.old.trouble.plan }
+        ensures after { self.new ≡ after_op Asks (ending result) self.old }
+        ensures exactly { is_stopped (ending result) ≡ falls_on self.old.trouble.plan Asks }
         ensures causes { Causes self.old.trouble.faults self.new.trouble.faults result }
+        ensures wants { Wants self.old.trouble.wants self.new.trouble.wants result }
         ensures length { IfOk result (λ n. n ≡ length (area_bytes area self.old.told)) }
     {
         if self.trouble.falls_on_len() {
@@ -189,9 +197,10 @@ impl Disk for SimDisk {
     }
 
     fn read(&mut self, area: Area, at: u64, into: &mut [u8]) -> Result<usize, Refused>
-        ensures after { self.new ≡ after_read self.old result }
-        ensures exactly { is_failed result ≡ falls_on_read self.old.trouble.plan }
+        ensures after { self.new ≡ after_op Reads (ending result) self.old }
+        ensures exactly { is_stopped (ending result) ≡ falls_on self.old.trouble.plan Reads }
         ensures causes { Causes self.old.trouble.faults self.new.trouble.faults result }
+        ensures wants { Wants self.old.trouble.wants self.new.trouble.wants result }
         ensures bytes { IfOk result (λ n. GivesBytes (area_bytes area self.old.told) at n into.new) }
         ensures within { IfOk result (λ n. n ≤ length into.new) }
         ensures rest { IfOk result (λ n. drop n into.new ≡ drop n into.old) }
@@ -207,15 +216,16 @@ impl Disk for SimDisk {
     }
 
     fn write_at(&mut self, area: Area, at: u64, from: &[u8]) -> Result<(), Refused>
-        ensures after { self.new ≡ after_change self.old (Write area at from.now) result }
-        ensures exactly { is_failed result ≡ falls_on_change self.old.trouble.plan }
+        ensures after { self.new ≡ after_op (Does (Write area at from.now)) (ending result) self.old }
+        ensures exactly { is_stopped (ending result) ≡ falls_on self.old.trouble.plan (Does (Write area at from.now)) }
         ensures causes { Causes self.old.trouble.faults self.new.trouble.faults result }
+        ensures wants { Wants self.old.trouble.wants self.new.trouble.wants result }
     {
         if self.trouble.falls_on_change() {
             self.trouble.fail_change();
             return Err(Refused::Failed);
         }
-        write_over(
+        let done = write_over(
             self.alloc,
             &mut self.calls,
             &mut self.undos,
@@ -223,42 +233,52 @@ impl Disk for SimDisk {
             area,
             at,
             from,
-        )?;
+        );
+        if done.is_err() {
+            return Err(self.trouble.want());
+        }
         self.trouble.pass_change();
         Ok(())
     }
 
     fn cut(&mut self, area: Area, len: u64) -> Result<(), Refused>
-        ensures after { self.new ≡ after_change self.old (Cut area len) result }
-        ensures exactly { is_failed result ≡ falls_on_change self.old.trouble.plan }
+        ensures after { self.new ≡ after_op (Does (Cut area len)) (ending result) self.old }
+        ensures exactly { is_stopped (ending result) ≡ falls_on self.old.trouble.plan (Does (Cut area len)) }
         ensures causes { Causes self.old.trouble.faults self.new.trouble.faults result }
+        ensures wants { Wants self.old.trouble.wants self.new.trouble.wants result }
     {
         if self.trouble.falls_on_change() {
             self.trouble.fail_change();
             return Err(Refused::Failed);
         }
-        let undo = Undo::of_cut(self.alloc, &self.current, area, len as usize)?;
-        note(
+        let done = cut_off(
+            self.alloc,
             &mut self.calls,
             &mut self.undos,
-            Call::Cut { area, len },
-            undo,
-        )?;
-        self.current.cut(area, len as usize);
+            &mut self.current,
+            area,
+            len,
+        );
+        if done.is_err() {
+            return Err(self.trouble.want());
+        }
         self.trouble.pass_change();
         Ok(())
     }
 
     fn sync(&mut self) -> Result<(), Refused>
-        ensures after { self.new ≡ after_change self.old Sync result }
-        ensures exactly { is_failed result ≡ falls_on_change self.old.trouble.plan }
+        ensures after { self.new ≡ after_op (Does Sync) (ending result) self.old }
+        ensures exactly { is_stopped (ending result) ≡ falls_on self.old.trouble.plan (Does Sync) }
         ensures causes { Causes self.old.trouble.faults self.new.trouble.faults result }
+        ensures wants { Wants self.old.trouble.wants self.new.trouble.wants result }
     {
         if self.trouble.falls_on_change() {
             self.trouble.fail_change();
             return Err(Refused::Failed);
         }
-        self.calls.push(Call::Sync)?;
+        if self.calls.push(Call::Sync).is_err() {
+            return Err(self.trouble.want());
+        }
         self.trouble.pass_change();
         Ok(())
     }
@@ -323,6 +343,28 @@ fn write_over(
         let _ = undos.pop();
         return Err(AllocError);
     }
+    Ok(())
+}
+
+// Cuts, and notes the call: both or none.
+fn cut_off(
+    alloc: Global,
+    calls: &mut Vec<Call>,
+    undos: &mut Vec<Undo>,
+    now: &mut Areas,
+    area: Area,
+    len: u64,
+) -> Result<(), AllocError>
+    ensures calls { OnOk result (calls.new.items ≡ calls.old.items ++ Cut area len ∷ []) }
+    ensures undos { OnOk result (undos.new.items ≡ undos.old.items ++ undo_of_cut area len now.old ∷ []) }
+    ensures now { OnOk result (now.new ≡ with_bytes area (take len (bytes_of area now.old)) now.old) }
+    ensures same_calls { OnErr result (calls.new.items ≡ calls.old.items) }
+    ensures same_undos { OnErr result (undos.new.items ≡ undos.old.items) }
+    ensures same_now { OnErr result (now.new ≡ now.old) }
+{
+    let undo = Undo::of_cut(alloc, now, area, len as usize)?;
+    note(calls, undos, Call::Cut { area, len }, undo)?;
+    now.cut(area, len as usize);
     Ok(())
 }
 

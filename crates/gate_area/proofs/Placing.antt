@@ -9,7 +9,11 @@ use Rattle.disk_model.proofs.Bytes.{length-written}
 use Rattle.disk_model.proofs.OnArea.{own-on}
 use Rattle.disk_model.proofs.Reading.{area_bytes-and_then}
 use Rattle.disk_model.proofs.Telling.{made_plain, told_before}
+use Rattle.disk_model.specs.Running.{Op, Asks, Does, Ending, GoesBy}
+use Rattle.disk_model.proofs.Running.{same_ops}
+use Rattle.disk_model.specs.Sim.{Sim}
 use Rattle.gate_area.specs.Gate.{retire_calls}
+use Rattle.gate_area.specs.Operations.{retire_ops}
 
 -- after the body is written behind the gate, the gate is still within the area
 pub still_within : (old now : Option Told) (honest honest' : Bool) (area : Area) (gate : ℕ) (body : List ℕ) (u : Told)
@@ -43,3 +47,13 @@ done_by P (Err e) honest honest' old now calls made same settles u tells = tt
 done_by P (Ok v) honest honest' old now calls made same settles u tells =
     let before = told_before old now calls u (made (sym same ∙ tells.honest)) tells.told in
     subst P (sym before.2) (settles before.0)
+
+-- the operations of retiring, by the length that the disk has told
+pub cut_goes : (area : Area) (n m : ℕ) (old now : Option Sim) (e : Ending) → m ≡ min n 16 → ((d : Sim) → old ≡ Some d → n ≡ length (area_bytes area d.told))
+    → GoesBy (λ t. Asks ∷ Does (Cut area m) ∷ Does Sync ∷ Does (Write area 0 (0 ∷ [])) ∷ Does Sync ∷ []) old now e → GoesBy (retire_ops area) old now e
+cut_goes area n m old now e cut size goes =
+    same_ops (λ t. Asks ∷ Does (Cut area m) ∷ Does Sync ∷ Does (Write area 0 (0 ∷ [])) ∷ Does Sync ∷ []) (retire_ops area) old now e
+    (λ d is. ap (λ k. Asks ∷ Does (Cut area k) ∷ Does Sync ∷ Does (Write area 0 (0 ∷ [])) ∷ Does Sync ∷ []) (least d (size d is))) goes
+  where
+    least : (d : Sim) → n ≡ length (area_bytes area d.told) → m ≡ min 16 (length (area_bytes area d.told))
+    least d told = omega arith

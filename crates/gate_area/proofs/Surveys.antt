@@ -1,12 +1,16 @@
 -- What a survey finds, from what its reads gave.
-use Rattle.std.proofs.Common.{◌≡◌, ℕ, inr, cond, List, length, take, Option, Some, Result, Ok, Err, refl, ap, sym, ◌∙◌, subst, arith}
+use Rattle.std.proofs.Common.{◌≡◌, ℕ, inr, cond, List, length, take, Option, Some, Result, Ok, Err, refl, ap, sym, ◌∙◌, subst, arith, None, IsErrAnd}
 use Rattle.std.proofs.lemmas.Bool.{le-leb}
 use Rattle.std.proofs.lemmas.List.{take-take}
 use Rattle.disk_model.specs.declared.area.Area.{Area}
 use Rattle.disk_model.specs.Areas.{bytes_of}
 use Rattle.disk_model.specs.Calls.{Told, area_bytes, reads}
-use Rattle.disk_model.specs.Causes.{GivesBytes, read_passed}
-use Rattle.disk_model.specs.declared.plan.Plan.{Plan}
+use Rattle.disk_model.specs.Causes.{GivesBytes}
+use Rattle.disk_model.specs.declared.area.Refused.{Refused}
+use Rattle.disk_model.specs.declared.area.Refused.TheVariants.{Failed, Memory}
+use Rattle.disk_model.specs.Running.{Op, GoesBy, Passed, refused_ending}
+use Rattle.disk_model.specs.Sim.{Sim}
+use Rattle.gate_area.specs.Operations.{survey_ops, survey_ending, spoilt_ending}
 use Rattle.disk_model.proofs.Reading.{reads-bytes}
 use Rattle.gate_area.specs.declared.looking.Look.{Look}
 use Rattle.gate_area.specs.declared.pair.Head.{Head}
@@ -14,7 +18,7 @@ use Rattle.gate_area.specs.declared.pair.Head.TheVariants.{Closed}
 use Rattle.gate_area.specs.declared.pair.Pair.{Pair}
 use Rattle.gate_area.specs.declared.pair.Standing.{Standing}
 use Rattle.gate_area.specs.declared.pair.SurveyFault.{SurveyFault}
-use Rattle.gate_area.specs.Standing.{first_of, second_of, head_in, head_of, judged, answer_at, answer_of, Answers, ReadsTwice, IsLook}
+use Rattle.gate_area.specs.Standing.{first_of, second_of, fault_of, head_in, head_of, judged, answer_at, answer_of, Answers, IsLook}
 
 -- 17 bytes were read
 pub seen : (pair : Pair) (file into : List ℕ) (n size : ℕ) (head : Head) → GivesBytes file 0 n into → n ≡ 17 → size ≡ length file → head ≡ head_in pair (take 16 into)
@@ -48,7 +52,22 @@ surveyed pair t a b x y result ea eb lx ly is =
     ∙ ap (λ h. answer_at pair (length f) (length s) (judged pair (length f) (length s) (head_of pair f) h)) (ly.head ∙ ap (head_of pair) es) in
     subst (Answers (answer_of pair (reads t))) (sym e) (answers_itself (answer_of pair (reads t)))
 
--- both reads have passed, whatever the answer
-pub both_passed : (p : Plan) (now : Option Plan) (result : Result Standing SurveyFault) → now ≡ Some (read_passed (read_passed p)) → ReadsTwice p now result
-both_passed p now (Ok s) e = e
-both_passed p now (Err fault) e = inr (inr e)
+refused_fault : (refused : Refused) → refused_ending refused ≡ spoilt_ending (fault_of refused)
+refused_fault Failed = refl
+refused_fault Memory = refl
+
+-- an operation of a survey was refused
+pub survey_refused : (ops : Told → List Op) (old now : Option Sim) (refused : Refused) (r : Result Standing SurveyFault) → IsErrAnd r (λ e. e ≡ fault_of refused)
+    → GoesBy ops old now (refused_ending refused) → GoesBy ops old now (survey_ending r)
+survey_refused ops old now refused (Ok x) is goes = absurd is
+survey_refused ops old now refused (Err e) is goes = subst (λ x. GoesBy ops old now x) (refused_fault refused ∙ sym (ap spoilt_ending is)) goes
+
+answer_passes : (pair : Pair) (n m : ℕ) (j : Result (Option (Area × ℕ)) (Area × ℕ)) → survey_ending (answer_at pair n m j) ≡ Passed
+answer_passes pair n m (Ok None) = refl
+answer_passes pair n m (Ok (Some (area, generation))) = refl
+answer_passes pair n m (Err (area, at)) = refl
+
+-- all have passed where the areas were judged
+pub judged_goes : (pair : Pair) (n m : ℕ) (j : Result (Option (Area × ℕ)) (Area × ℕ)) (r : Result Standing SurveyFault) (old now : Option Sim) → r ≡ answer_at pair n m j
+    → GoesBy (λ t. survey_ops) old now Passed → GoesBy (λ t. survey_ops) old now (survey_ending r)
+judged_goes pair n m j r old now is goes = subst (λ x. GoesBy (λ t. survey_ops) old now x) (sym (ap survey_ending is ∙ answer_passes pair n m j)) goes

@@ -1,5 +1,5 @@
 -- The steps that close and open the gate of an area, and what they leave of it at each moment.
-use Rattle.std.specs.Prelude.{◌≡◌, ◌≢◌, ◌⊎◌, ℕ, ◌+◌, ◌<◌, ◌≤◌, min, max, false, List, [], ◌∷◌, length, take, slice_index}
+use Rattle.std.specs.Prelude.{◌≡◌, ◌≢◌, ◌⊎◌, ℕ, ◌+◌, ◌<◌, ◌≤◌, min, max, false, List, [], ◌∷◌, ◌++◌, length, take, slice_index}
 use Rattle.disk_model.specs.declared.area.Area.{Area}
 use Rattle.disk_model.specs.declared.areas.Areas.{Areas}
 use Rattle.disk_model.specs.declared.call.Call.{Call}
@@ -82,3 +82,19 @@ pub record FoundLeaves (area : Area) (body : List ℕ) (before after image : Are
   pub others : OthersStay area before image
   pub file : OpenOrShut 0 body (bytes_of area before) (bytes_of area image)
   pub pair : IsFoundable area (length body) before → StandsAsEither (pair_of area) before after image
+
+-- an area is retired and founded with these bytes behind its gate
+abbrev pub renew_calls : Area → List ℕ → Told → List Call
+renew_calls area body t = retire_calls area t ++ gate_calls area 0 body
+
+-- a file with some bytes of which the first isn't 1, no longer than one with a body behind it
+pub record IsClosed (size : ℕ) (image : List ℕ) : Type 0 where
+  pub some : 0 < length image
+  pub no_longer : length image ≤ 1 + size
+  pub shut : slice_index image 0 ≢ 1
+
+-- What a crash leaves while an area is retired and founded: the others as they were, and of this one what
+-- retiring leaves, too few bytes or a gate that isn't open, or the whole body behind an open gate.
+pub record RenewLeaves (area : Area) (body : List ℕ) (before image : Areas) : Type 0 where
+  pub others : OthersStay area before image
+  pub file : FrontOrShort (bytes_of area before) (bytes_of area image) ⊎ (IsClosed (length body) (bytes_of area image) ⊎ (bytes_of area image ≡ 1 ∷ body))

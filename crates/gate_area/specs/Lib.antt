@@ -1,3 +1,4 @@
 pub mod Gate
+pub mod Operations
 pub mod Standing
 pub mod Rows

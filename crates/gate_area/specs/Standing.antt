@@ -7,8 +7,7 @@ use Rattle.disk_model.specs.declared.area.Refused.{Refused}
 use Rattle.disk_model.specs.declared.area.Refused.TheVariants.{Failed, Memory}
 use Rattle.disk_model.specs.declared.areas.Areas.{Areas}
 use Rattle.disk_model.specs.Areas.{bytes_of, same}
-use Rattle.disk_model.specs.Causes.{Rose, read_passed}
-use Rattle.disk_model.specs.declared.plan.Plan.{Plan}
+use Rattle.disk_model.specs.Causes.{Rose}
 use Rattle.gate_area.specs.declared.pair.Head.{Head}
 use Rattle.gate_area.specs.declared.pair.Head.TheVariants.{Closed, Spoilt, Open}
 use Rattle.gate_area.specs.declared.looking.Look.{Look}
@@ -122,10 +121,13 @@ pub record SurveyCauses (before now : ℕ) (result : Result Standing SurveyFault
   pub damaged : (area : Area) (at : ℕ) → IsErrOf result (Damaged area at) → now ≡ before
   pub kept : OnOk result (now ≡ before)
 
--- a survey makes two reads; a plan of faults that the disk tells has then let both pass
-abbrev pub ReadsTwice : Plan → Option Plan → Result Standing SurveyFault → Type 0
-ReadsTwice p now result = MatchResult result (λ _. now ≡ Some (read_passed (read_passed p)))
-    (λ fault. (fault ≡ Disk) ⊎ ((fault ≡ NoMemory) ⊎ (now ≡ Some (read_passed (read_passed p)))))
+-- `NoMemory` comes only where the count of wants rose: a survey takes no memory of its own
+pub record SurveyWants (before now : ℕ) (result : Result Standing SurveyFault) : Type 0 where
+  pub later : before ≤ now
+  pub memory : IsErrOf result NoMemory → Rose before now
+  pub disk : IsErrOf result Disk → now ≡ before
+  pub damaged : (area : Area) (at : ℕ) → IsErrOf result (Damaged area at) → now ≡ before
+  pub kept : OnOk result (now ≡ before)
 
 -- the pair of an area
 abbrev pub pair_of : Area → Pair
@@ -133,3 +135,10 @@ pair_of Journal0 = Journal
 pair_of Journal1 = Journal
 pair_of Check2 = Check
 pair_of Check3 = Check
+
+-- the other area of its pair
+abbrev pub other_of : Area → Area
+other_of Journal0 = Journal1
+other_of Journal1 = Journal0
+other_of Check2 = Check3
+other_of Check3 = Check2

@@ -1,10 +1,11 @@
 //! What a pair of areas stands for.
-ghost use Rattle.std.specs.Prelude.{◌≡◌, ◌&&◌, nat_lt, take, Some, IfOk, OnOk};
+ghost use Rattle.std.specs.Prelude.{◌≡◌, ◌&&◌, nat_lt, take, [], ◌∷◌, IfOk};
 ghost use Rattle.disk_model.specs.Calls.{Told, Tells, area_bytes, reads};
-ghost use Rattle.disk_model.specs.Causes.{Causes, read_passed};
-ghost use Rattle.disk_model.specs.declared.plan.Plan.{Plan};
+ghost use Rattle.disk_model.specs.Causes.{Causes, Wants};
+ghost use Rattle.disk_model.specs.Running.{Asks, GoesBy, Reads, ending};
 ghost use Rattle.gate_area.specs.declared.pair.Head.TheVariants.{Closed, Open};
-ghost use Rattle.gate_area.specs.Standing.{Answers, SurveyCauses, answer_of, head_in, judged, has_magic, has_version, generation_of, is_journal, IsLook, ReadsTwice, answer_at};
+ghost use Rattle.gate_area.specs.Operations.{survey_ops, survey_ending};
+ghost use Rattle.gate_area.specs.Standing.{Answers, SurveyCauses, answer_of, head_in, judged, has_magic, has_version, generation_of, is_journal, IsLook, SurveyWants, answer_at};
 
 use crate::{Head, Pair, Standing, SurveyFault};
 use disk_model::{Area, Disk, Refused};
@@ -22,8 +23,9 @@ pub fn survey<D: Disk>(disk: &mut D, pair: Pair) -> Result<Standing, SurveyFault
     ensures answer { (t : Told) → Tells (D.told disk.old) (D.honest disk.old) t → Answers (answer_of pair (reads t)) result }
     ensures told { D.told disk.new ≡ D.told disk.old }
     ensures honest { D.honest disk.new ≡ D.honest disk.old }
-    ensures reads { (p : Plan) → D.plan disk.old ≡ Some p → ReadsTwice p (D.plan disk.new) result }
+    ensures goes { GoesBy (λ t. survey_ops) (D.memory disk.old) (D.memory disk.new) (survey_ending result) }
     ensures causes { SurveyCauses (D.faults disk.old) (D.faults disk.new) result }
+    ensures wants { SurveyWants (D.wants disk.old) (D.wants disk.new) result }
 {
     let first = look_at(disk, pair, pair.first())?;
     let second = look_at(disk, pair, pair.second())?;
@@ -35,8 +37,9 @@ fn look_at<D: Disk>(disk: &mut D, pair: Pair, area: Area) -> Result<Look, Refuse
     ensures look { (t : Told) → Tells (D.told disk.old) (D.honest disk.old) t → IfOk result (IsLook pair (area_bytes area t)) }
     ensures told { D.told disk.new ≡ D.told disk.old }
     ensures honest { D.honest disk.new ≡ D.honest disk.old }
-    ensures read { (p : Plan) → D.plan disk.old ≡ Some p → OnOk result (D.plan disk.new ≡ Some (read_passed p)) }
+    ensures goes { GoesBy (λ t. Asks ∷ Reads ∷ []) (D.memory disk.old) (D.memory disk.new) (ending result) }
     ensures causes { Causes (D.faults disk.old) (D.faults disk.new) result }
+    ensures wants { Wants (D.wants disk.old) (D.wants disk.new) result }
 {
     let len = disk.len(area)?;
     let mut front = [0; 17];

@@ -1,6 +1,6 @@
 //! A pair of areas, and what was found of it.
 ghost use Rattle.std.specs.Prelude.{◌≡◌};
-ghost use Rattle.gate_area.specs.Standing.{first_of, second_of, fault_of};
+ghost use Rattle.gate_area.specs.Standing.{first_of, second_of, other_of, fault_of};
 
 use disk_model::{Area, Refused};
 
@@ -30,6 +30,18 @@ impl Pair {
             Pair::Journal => Area::Journal1,
             Pair::Check => Area::Check3,
         }
+    }
+}
+
+/// The other area of its pair.
+pub fn other(area: Area) -> Area
+    ensures { result ≡ other_of area }
+{
+    match area {
+        Area::Journal0 => Area::Journal1,
+        Area::Journal1 => Area::Journal0,
+        Area::Check2 => Area::Check3,
+        Area::Check3 => Area::Check2,
     }
 }
 

@@ -1,13 +1,15 @@
 //! Closing and opening the gate of an area.
 ghost use Rattle.std.specs.Prelude.{◌≡◌, ◌≤◌, ◌<◌, ◌-◌, ◌^◌, length, OnOk};
 ghost use Rattle.disk_model.specs.Calls.{Told, Tells, Makes, MakesFirst, LeavesOnly, IsSettled, and_then, area_bytes, reads};
-ghost use Rattle.disk_model.specs.Causes.{Causes};
+ghost use Rattle.disk_model.specs.Causes.{Causes, Wants};
+ghost use Rattle.disk_model.specs.Running.{GoesBy, ending};
 ghost use Rattle.gate_area.specs.Gate.{IsRetired, retire_calls, gate_calls, RetireLeaves, FoundLeaves};
+ghost use Rattle.gate_area.specs.Operations.{retire_ops, gate_ops};
 
 use disk_model::{Area, Disk, Refused};
 
 /// Makes an area not count: cuts it to at most 16 bytes, syncs, writes a 0 over its first byte, and syncs. It
-/// asks the area's length before, and that nothing is pending. At each moment a crash leaves the other areas
+/// asks the area's length before, and that nothing is pending. It takes no memory of its own. At each moment a crash leaves the other areas
 /// as they were, and the pair of this one stands for what it stood for or for what it stands for afterwards.
 pub fn retire<D: Disk>(disk: &mut D, area: Area) -> Result<(), Refused>
     requires settled { (t : Told) → Tells (D.told disk.old) (D.honest disk.old) t → IsSettled t }
@@ -18,7 +20,9 @@ pub fn retire<D: Disk>(disk: &mut D, area: Area) -> Result<(), Refused>
     ensures done { (t : Told) → Tells (D.told disk.new) (D.honest disk.new) t → OnOk result (IsSettled t) }
     ensures retired { (t : Told) → Tells (D.told disk.new) (D.honest disk.new) t → OnOk result (IsRetired (area_bytes area t)) }
     ensures honest { D.honest disk.new ≡ D.honest disk.old }
+    ensures goes { GoesBy (retire_ops area) (D.memory disk.old) (D.memory disk.new) (ending result) }
     ensures causes { Causes (D.faults disk.old) (D.faults disk.new) result }
+    ensures wants { Wants (D.wants disk.old) (D.wants disk.new) result }
 {
     cut_and_close(disk, area)
 }
@@ -28,7 +32,9 @@ fn cut_and_close<D: Disk>(disk: &mut D, area: Area) -> Result<(), Refused>
     ensures calls { OnOk result (Makes (D.honest disk.old) (D.told disk.old) (D.told disk.new) (retire_calls area)) }
     ensures some { MakesFirst (D.honest disk.old) (D.told disk.old) (D.told disk.new) (retire_calls area) }
     ensures honest { D.honest disk.new ≡ D.honest disk.old }
+    ensures goes { GoesBy (retire_ops area) (D.memory disk.old) (D.memory disk.new) (ending result) }
     ensures causes { Causes (D.faults disk.old) (D.faults disk.new) result }
+    ensures wants { Wants (D.wants disk.old) (D.wants disk.new) result }
 {
     let len = disk.len(area)?;
     disk.cut(area, len.min(16))?;
@@ -45,7 +51,9 @@ pub fn open_gate<D: Disk>(disk: &mut D, area: Area, gate: u64, body: &[u8]) -> R
     ensures calls { OnOk result (Makes (D.honest disk.old) (D.told disk.old) (D.told disk.new) (λ t. gate_calls area gate body.now)) }
     ensures some { MakesFirst (D.honest disk.old) (D.told disk.old) (D.told disk.new) (λ t. gate_calls area gate body.now) }
     ensures honest { D.honest disk.new ≡ D.honest disk.old }
+    ensures goes { GoesBy (λ t. gate_ops area gate body.now) (D.memory disk.old) (D.memory disk.new) (ending result) }
     ensures causes { Causes (D.faults disk.old) (D.faults disk.new) result }
+    ensures wants { Wants (D.wants disk.old) (D.wants disk.new) result }
 {
     disk.write_at(area, gate + 1, body)?;
     disk.sync()?; // the body stands
@@ -68,7 +76,9 @@ pub fn found<D: Disk>(disk: &mut D, area: Area, body: &[u8]) -> Result<(), Refus
         LeavesOnly t (D.told disk.new) (FoundLeaves area body.now (reads t) (reads (and_then t (gate_calls area 0 body.now)))) }
     ensures done { (t : Told) → Tells (D.told disk.new) (D.honest disk.new) t → OnOk result (IsSettled t) }
     ensures honest { D.honest disk.new ≡ D.honest disk.old }
+    ensures goes { GoesBy (λ t. gate_ops area 0 body.now) (D.memory disk.old) (D.memory disk.new) (ending result) }
     ensures causes { Causes (D.faults disk.old) (D.faults disk.new) result }
+    ensures wants { Wants (D.wants disk.old) (D.wants disk.new) result }
 {
     open_gate(disk, area, 0, body)
 }

@@ -220,9 +220,13 @@ impl Disk for Noting {
 
     ghost honest = { λ d. ⟦<SimDisk as Disk>⟧.honest d.disk };
 
-    ghost plan = { λ d. ⟦<SimDisk as Disk>⟧.plan d.disk };
+    ghost memory = { λ d. ⟦<SimDisk as Disk>⟧.memory d.disk };
 
     ghost faults = { λ d. ⟦<SimDisk as Disk>⟧.faults d.disk };
+
+    ghost wants = { λ d. ⟦<SimDisk as Disk>⟧.wants d.disk };
+
+    ghost tells = { λ d. ⟦<SimDisk as Disk>⟧.tells d.disk };
 
     fn len(&mut self, area: Area) -> Result<u64, Refused> {
         self.disk.len(area)

@@ -173,17 +173,3 @@ pub found_standing : (r : Result Opened LogFault) (area : Area) (generation limi
     → IfOk r (λ o. IsFound limit o.1.items (stands Journal areas) o.0)
 found_standing (Ok o) area generation limit areas is standing = subst (λ (j : Judgement). IsFound limit o.1.items j o.0) (sym standing) is
 found_standing (Err e) area generation limit areas is standing = tt
-
-abbrev no_area : Judgement
-no_area = Ok None
-
-abbrev an_area : Area → ℕ → Judgement
-an_area area generation = Ok (Some (area, generation))
-
--- a fresh pair has no area that stands
-pub fresh_has_none : (j : Judgement) (area : Area) (generation : ℕ) → j ≡ Ok None → j ≡ Ok (Some (area, generation)) → ⊥
-fresh_has_none j area generation fresh stood = let no : no_area ≡ an_area area generation = sym fresh ∙ stood in cc
-
--- one area stands
-pub one_stands : (j : Judgement) (a area : Area) (k generation : ℕ) → j ≡ Ok (Some (a, k)) → j ≡ Ok (Some (area, generation)) → a ≡ area
-one_stands j a area k generation one other = sym (e_area a k area generation (sym one ∙ other))

@@ -5,6 +5,7 @@ use Rattle.std.proofs.lemmas.List.{append-nil, take_at, drop_at, take-take, take
 use Rattle.std.proofs.lemmas.Bool.Decides.{eqb_tells}
 use Rattle.std.proofs.lemmas.List.Elements.{All-nil, All-cons, All-append}
 use Rattle.gate_area.specs.Gate.{opened, IsShut}
+use Rattle.gate_area.proofs.Renewals.{opened_is}
 use Rattle.gate_log.specs.Records.{u32_bytes, opened_record, all_opened, room, gate_of, end_of, base_of, behind_gate, IsShort, StandsFor}
 use Rattle.gate_log.proofs.Spelling.{length-u32}
 
@@ -19,16 +20,6 @@ shut_stands records body file image stands is =
       spelled = is.front ∙ stands.spelled ∙ ap (λ front. front ++ all_opened records) (sym sixteen);
       shut = is.shut;
     }
-
--- the file with an open gate and its body, in parts
-pub opened_is : (gate : ℕ) (body file : List ℕ) → gate < length file
-    → opened gate body file ≡ take gate file ++ (1 ∷ (body ++ drop (gate + 1 + length body) file))
-opened_is gate body file within =
-    let front : length (take (gate + 1) file) ≡ gate + 1 = omega (arith, length-take (gate + 1) file) in
-    let rest = body ++ drop (gate + 1 + length body) file in
-    ap (λ x. x ++ ((1 ∷ []) ++ drop (gate + 1) (take (gate + 1) file ++ rest)))
-    (take-append-le gate (take (gate + 1) file) rest (omega arith) ∙ take-take gate (gate + 1) file (omega arith))
-    ∙ ap (λ x. take gate file ++ (1 ∷ x)) (drop_at (take (gate + 1) file) rest (gate + 1) front)
 
 -- its first 16 bytes are those that it had
 pub opened_front : (gate : ℕ) (body file : List ℕ) → gate < length file → 16 ≤ gate → take 16 (opened gate body file) ≡ take 16 file

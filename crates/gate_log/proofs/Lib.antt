@@ -3,8 +3,8 @@ pub mod Appends
 pub mod Fronts
 pub mod Bytes
 pub mod Pages
+pub mod Going
 pub mod Moves
 pub mod Renewals
-pub mod Phases
 pub mod Answering
 pub mod Opens

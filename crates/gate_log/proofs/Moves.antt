@@ -17,6 +17,7 @@ use Rattle.gate_area.specs.declared.pair.Head.TheVariants.{Closed, Spoilt, Open}
 use Rattle.gate_area.specs.Gate.{gate_steps, opened, OpenOrShut, OthersStay}
 use Rattle.gate_area.specs.Standing.{judged, stands, head_of}
 use Rattle.gate_area.proofs.Moments.{found_file}
+use Rattle.gate_area.proofs.Phases.{reads_image}
 use Rattle.gate_log.specs.Journal.{Log, Holds, in_area, records_of, records_in, append_calls, appended}
 use Rattle.gate_log.specs.Moments.{ChecksStay, OldOrNew}
 use Rattle.gate_log.specs.Records.{gate_of, base_of, behind_gate, IsShort, StandsFor}
@@ -131,11 +132,6 @@ append_leaves t log records r short settled holds i image is =
     (subst (λ (f : List ℕ). OpenOrShut gate (behind_gate r) f (bytes_of log.area image)) (sym same_file) file))
 
 -- what reads give is an image
-pub reads_image : (u : Told) → IsImage u (reads u)
-reads_image u area =
-    let P : List ℕ → Type 0 = λ b. CanLeave (kept area u) b in
-    subst P (reading-kept area u ∙ sym (reads-bytes u area)) (new_can (kept area u))
-
 -- what is told after all of some calls
 pub after_all : (honest : Bool) (old now : Option Told) (calls : Told → List Call) (t u : Told) → Makes honest old now calls → Tells old honest t → now ≡ Some u → u ≡ and_then t (calls t)
 after_all honest old now calls t u makes tells is =

@@ -8,12 +8,12 @@ use Rattle.disk_model.proofs.OnArea.{settled-sync}
 use Rattle.disk_model.proofs.Reading.{area_bytes-and_then, reads_synced}
 use Rattle.disk_model.proofs.Telling.{told_before, made_plain}
 use Rattle.gate_area.specs.declared.pair.Pair.TheVariants.{Journal}
-use Rattle.gate_area.specs.Gate.{retire_steps, gate_calls}
+use Rattle.gate_area.specs.Gate.{retire_steps, gate_calls, renew_calls}
 use Rattle.gate_area.specs.Standing.{stands}
-use Rattle.gate_log.specs.Journal.{Holds, log_of, begin_calls, find_calls, open_calls, renew_calls}
+use Rattle.gate_log.specs.Journal.{Holds, log_of, begin_calls, find_calls, open_calls}
 use Rattle.gate_log.specs.Records.{area_body}
 use Rattle.gate_log.proofs.Moves.{Judgement, after_all}
-use Rattle.gate_log.proofs.Phases.{makes_as, makes_first_as, makes_synced, makes_first_synced}
+use Rattle.gate_area.proofs.Phases.{makes_as, makes_first_as, makes_synced, makes_first_synced}
 use Rattle.gate_log.proofs.Renewals.{length-body, renewed, fresh_holds}
 
 -- what a disk tells, by an equal one

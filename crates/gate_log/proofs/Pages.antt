@@ -11,18 +11,6 @@ use Rattle.gate_log.specs.declared.walking.Gate.TheVariants.{Shut as GateShut, O
 use Rattle.gate_log.specs.Records.{Mark, Shut, Opens, Broken, mark_of, preceded, record_at, by_mark, records_from}
 use Rattle.gate_log.specs.Walking.{Walks, IsMark, after_some}
 
--- a piece more of a file
-pub next_piece : (file into old new : List ℕ) (n : ℕ) → old ≡ take (length old) file → GivesBytes file (length old) n into → new ≡ old ++ take n into → new ≡ take (length new) file
-next_piece file into old new n prefix gives is =
-    let inside : length old ≤ length file = omega (arith, ap length prefix, length-take (length old) file) in
-    let size : length new ≡ length old + n = omega (arith, ap length is, length-append old (take n into), length-take n into, gives.count) in
-    is ∙ ap (λ l. l ++ take n into) prefix ∙ ap (λ l. take (length old) file ++ l) gives.bytes
-    ∙ sym (take-add (length old) n file) ∙ ap (λ k. take k file) (sym size)
-
--- a page is read over whole
-pub page_again : (len : ℕ) (into items : List ℕ) → len ≡ length items → length into ≡ length items → take len (into ++ drop (length into) items) ≡ into
-page_again len into items size same = take_at into (drop (length into) items) len (same ∙ sym size)
-
 pub opens_is : (len at : ℕ) (m : Mark) (gate : Gate) (size : ℕ) → IsMark len at m gate → gate ≡ GateOpens size → (m ≡ Opens size) × (at + (5 + size) ≤ len)
 opens_is len at Shut gate size is opens = absurd (let no : GateShut ≡ GateOpens size = sym is.0 ∙ opens in cc)
 opens_is len at (Opens s) gate size is opens =

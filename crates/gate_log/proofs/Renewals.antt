@@ -19,17 +19,17 @@ use Rattle.disk_model.specs.Steps.{after}
 use Rattle.gate_area.specs.declared.pair.Pair.TheVariants.{Journal}
 use Rattle.gate_area.specs.declared.pair.Head.{Head}
 use Rattle.gate_area.specs.declared.pair.Head.TheVariants.{Closed, Spoilt, Open}
-use Rattle.gate_area.specs.Gate.{IsRetired, HasFront, FrontOrShort, OpenOrShut, OthersStay, RetireLeaves, FoundLeaves, retire_steps, retire_calls, gate_steps, gate_calls}
-use Rattle.gate_area.specs.Standing.{judged, standing, stands, head_in, head_of, generation_of}
+use Rattle.gate_area.specs.Gate.{IsRetired, HasFront, FrontOrShort, OpenOrShut, OthersStay, RetireLeaves, FoundLeaves, retire_steps, retire_calls, gate_steps, gate_calls, renew_calls, IsClosed, RenewLeaves}
+use Rattle.gate_area.specs.Standing.{judged, standing, stands, head_in, head_of, generation_of, other_of}
 use Rattle.gate_area.proofs.Heads.{head-short, head-shut}
 use Rattle.gate_area.proofs.Pairs.{retire_retires, retire_settles}
-use Rattle.gate_log.specs.Journal.{Log, Holds, log_of, compacted, other_of, records_in, records_of, renew_calls}
-use Rattle.gate_log.specs.Moments.{OldOrNew, SameRecords, IsClosed, RenewLeaves}
+use Rattle.gate_log.specs.Journal.{Log, Holds, log_of, compacted, records_in, records_of}
+use Rattle.gate_log.specs.Moments.{OldOrNew, SameRecords}
 use Rattle.gate_log.specs.Records.{u32_bytes, u64_bytes, opened_record, all_opened, room, gate_of, behind_gate, front_bytes, area_body, IsShort, StandsFor}
-use Rattle.gate_log.proofs.Appends.{opened_is}
+use Rattle.gate_area.proofs.Renewals.{opened_is}
 use Rattle.gate_log.proofs.Fronts.{SameFront, same_head, front_stays, heads}
-use Rattle.gate_log.proofs.Moves.{records_are, checks_stay, standing_area, reads_image, Judgement, stood, spoilt, e_fault, e_area}
-use Rattle.gate_log.proofs.Phases.{and_then-and_then}
+use Rattle.gate_log.proofs.Moves.{records_are, checks_stay, standing_area, Judgement, stood, spoilt, e_fault, e_area}
+use Rattle.gate_area.proofs.Phases.{and_then-and_then, reads_image}
 use Rattle.gate_log.proofs.Spelling.{length-opened}
 
 -- ---- the bytes that an area is founded with
@@ -92,27 +92,6 @@ closed_head size image is = head-shut Journal [] image image (record { no_longer
 
 front_head : (file image : List ℕ) → HasFront file image → SameFront file image
 front_head file image has = record { long = omega (arith, has.longer, has.no_longer); longer = has.longer; front = has.front }
-
--- retiring leaves this
-pub retire_renews : (area : Area) (body : List ℕ) (before after image : Areas) → RetireLeaves area before after image → RenewLeaves area body before image
-retire_renews area body before after image leaves = record { others = leaves.others; file = inl leaves.file }
-
--- founding leaves this of what retiring left
-pub found_renews : (t : Told) (area : Area) (body : List ℕ) (after image : Areas) → 16 ≤ length body → IsSettled t
-    → FoundLeaves area body (reads (and_then t (retire_calls area t))) after image → RenewLeaves area body (reads t) image
-found_renews t area body after image long settled leaves =
-    let u = and_then t (retire_calls area t) in
-    let steps = retire_steps (length (area_bytes area t)) in
-    let few : IsRetired (bytes_of area (reads u)) = subst IsRetired (sym (reads-bytes u area)) (retire_retires area t) in
-    record {
-      others = λ b other. leaves.others b other ∙ image-other t b area steps 4 (reads u) other settled (reads_image u) ∙ sym (reads-bytes t b);
-      file = inr (by_file body (bytes_of area (reads u)) (bytes_of area image) long few leaves.file);
-    }
-  where
-    by_file : (body f image : List ℕ) → 16 ≤ length body → IsRetired f → OpenOrShut 0 body f image → IsClosed (length body) image ⊎ (image ≡ 1 ∷ body)
-    by_file body f image long few (inl is) = inl (record { some = is.within; no_longer = omega (arith, is.no_longer, few.short); shut = is.shut })
-    by_file body f image long few (inr all) =
-        inr (all ∙ opened_is 0 body f few.some ∙ ap (λ l. 1 ∷ (body ++ l)) (drop_all (0 + 1 + length body) f (omega (arith, few.short))) ∙ ap (λ l. 1 ∷ l) (append-nil body))
 
 -- ---- a fresh pair
 

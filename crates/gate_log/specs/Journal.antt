@@ -8,8 +8,8 @@ use Rattle.disk_model.specs.declared.call.Call.TheVariants.{Sync}
 use Rattle.disk_model.specs.Areas.{bytes_of}
 use Rattle.disk_model.specs.Calls.{Told, reads, IsSettled}
 use Rattle.gate_area.specs.declared.pair.Pair.TheVariants.{Journal}
-use Rattle.gate_area.specs.Gate.{retire_calls, gate_calls}
-use Rattle.gate_area.specs.Standing.{stands}
+use Rattle.gate_area.specs.Gate.{gate_calls, renew_calls}
+use Rattle.gate_area.specs.Standing.{stands, other_of}
 use Rattle.gate_log.specs.Records.{StandsFor, walk_of, end_of, base_of, behind_gate, area_body}
 
 -- the damaged place of an area
@@ -46,17 +46,6 @@ pub record Holds (log : Log) (records : List (List ℕ)) (areas : Areas) : Type 
 -- the areas stand for some records, and the log knows where
 abbrev pub IsLogOf : Log → Areas → Type 0
 IsLogOf log areas = (records : List (List ℕ)) × Holds log records areas
-
--- the other area of the journal
-abbrev pub other_of : Area → Area
-other_of Journal0 = Journal1
-other_of Journal1 = Journal0
-other_of Check2 = Journal0
-other_of Check3 = Journal0
-
--- an area is retired and founded with these bytes behind its gate
-abbrev pub renew_calls : Area → List ℕ → Told → List Call
-renew_calls area body t = retire_calls area t ++ gate_calls area 0 body
 
 -- a record is written behind the closed gate, which is then opened
 abbrev pub append_calls : Log → List ℕ → List Call

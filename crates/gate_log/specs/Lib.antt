@@ -1,6 +1,6 @@
 pub mod Journal
 pub mod Moments
-pub mod Reading
+pub mod Operations
 pub mod Records
 pub mod Rows
 pub mod Walking

@@ -52,23 +52,19 @@ pub record LogCauses {T : Type 0} (before now : ℕ) (result : Result T LogFault
   pub full : (len : ℕ) → IsErrOf result (Full len) → now ≡ before
   pub kept : OnOk result (now ≡ before)
 
+-- `Memory` comes only where the count of wants rose: the call takes no memory of its own
+pub record LogWants {T : Type 0} (before now : ℕ) (result : Result T LogFault) : Type 0 where
+  pub later : before ≤ now
+  pub memory : IsErrOf result Memory → Rose before now
+  pub disk : IsErrOf result Disk → now ≡ before
+  pub full : (len : ℕ) → IsErrOf result (Full len) → now ≡ before
+  pub kept : OnOk result (now ≡ before)
+
 -- the disk or memory was wanting
 abbrev pub IsWant : LogFault → Type 0
 IsWant fault = (fault ≡ Disk) ⊎ (fault ≡ Memory)
-
--- a file with some bytes of which the first isn't 1, no longer than one with a body behind it
-pub record IsClosed (size : ℕ) (image : List ℕ) : Type 0 where
-  pub some : 0 < length image
-  pub no_longer : length image ≤ 1 + size
-  pub shut : slice_index image 0 ≢ 1
 
 -- an opened log has these records, or a place is damaged, unless a call of the disk or memory was refused
 abbrev pub Finds : {T : Type 0} → (T → List (List ℕ)) → Result (List (List ℕ)) (Area × ℕ) → Result T LogFault → Type 0
 Finds listed (Ok records) result = MatchResult result (λ found. listed found ≡ records) IsWant
 Finds listed (Err (area, at)) result = MatchResult result (λ found. ⊥) (λ fault. (fault ≡ Damaged area at) ⊎ IsWant fault)
-
--- What a crash leaves while an area is retired and founded: the others as they were, and of this one what
--- retiring leaves, too few bytes or a gate that isn't open, or the whole body behind an open gate.
-pub record RenewLeaves (area : Area) (body : List ℕ) (before image : Areas) : Type 0 where
-  pub others : OthersStay area before image
-  pub file : FrontOrShort (bytes_of area before) (bytes_of area image) ⊎ (IsClosed (length body) (bytes_of area image) ⊎ (bytes_of area image ≡ 1 ∷ body))

@@ -2,17 +2,13 @@
 #![tactic(auto)]
 
 mod body;
+mod content;
 mod fault;
 pub mod laws;
 mod log;
-mod reading;
-mod renewing;
 pub mod rows;
 mod walking;
 
 pub use body::Body;
 pub use fault::LogFault;
 pub use log::GateLog;
-
-#[cfg(test)]
-mod tests;

@@ -1,24 +1,24 @@
 //! A log of records on a disk.
 ghost use Rattle.std.specs.Prelude.{◌≡◌, ◌==◌, if◌then◌else◌, ◌≤◌, ◌<◌, ◌+◌, ◌-◌, ◌^◌, ◌++◌, ◌↔◌, ℕ, List, [], ◌∷◌, length, OnOk, IfOk, IsErrOf, MatchResult, Ok, None, Some};
 ghost use Rattle.disk_model.specs.Calls.{Told, Tells, Makes, MakesFirst, LeavesOnly, IsSettled, area_bytes, reads};
-ghost use Rattle.disk_model.specs.Causes.{change_passed, read_passed};
-ghost use Rattle.disk_model.specs.declared.plan.Plan.{Plan};
+ghost use Rattle.disk_model.specs.Running.{GoesBy};
 ghost use Rattle.disk_model.specs.declared.area.Area.{Area};
 ghost use Rattle.disk_model.specs.declared.area.Area.TheVariants.{Journal0};
-ghost use Rattle.gate_area.specs.Standing.{stands};
+ghost use Rattle.gate_area.specs.Standing.{stands, other_of};
 ghost use Rattle.gate_area.specs.declared.pair.Pair.TheVariants.{Journal};
-ghost use Rattle.gate_log.specs.Journal.{Holds, IsFound, IsLogOf, append_calls, appended, compact_calls, compacted, find_calls, in_area, log_of, open_calls, other_of, records_in, renew_calls};
-ghost use Rattle.gate_log.specs.Moments.{Finds, IsWant, LogCauses, OldOrNew, SameRecords, SinceSync};
-ghost use Rattle.gate_log.specs.Reading.{pieces_of, reads_passed};
+ghost use Rattle.gate_log.specs.Journal.{Holds, IsFound, IsLogOf, append_calls, appended, compact_calls, compacted, find_calls, in_area, log_of, open_calls, records_in};
+ghost use Rattle.gate_area.specs.Gate.{renew_calls};
+ghost use Rattle.gate_log.specs.Moments.{Finds, IsWant, LogCauses, LogWants, OldOrNew, SameRecords, SinceSync};
+ghost use Rattle.gate_log.specs.Operations.{append_ops, compact_ops, find_ops, log_ending, open_ops};
+ghost use Rattle.gate_area.specs.Operations.{area_readings, renew_ops};
 ghost use Rattle.gate_log.specs.Records.{StandsFor, area_body, base_of, walk_of, end_of};
 ghost use Rattle.gate_log.specs.declared.fault.LogFault.TheVariants.{Damaged, Full};
 
-use crate::reading::read_all;
-use crate::renewing::{no_records, one_record, renew};
+use crate::content::{no_records, one_record};
 use crate::walking::walk;
 use crate::{Body, LogFault};
 use disk_model::{Area, Disk};
-use gate_area::{Pair, Standing, open_gate, survey};
+use gate_area::{Pair, Standing, open_gate, other, read_all, renew, survey};
 use mrp_types::Octets;
 use std::alloc::Global;
 use std::marker::Model;
@@ -78,9 +78,6 @@ impl GateLog {
         requires least { 17 ≤ limit }
         requires most { limit < 2 ^ 32 }
         ensures room { IfOk result (λ opened. end_of opened.1.items < 2 ^ 63) }
-        // where an area stands a sync passes, the two reads of the survey, and those of the whole area
-        ensures reads { (t : Told) (p : Plan) (area : Area) (generation : ℕ) → Tells (D.told disk.old) (D.honest disk.old) t → D.plan disk.old ≡ Some p → stands Journal (reads t) ≡ Ok (Some (area, generation)) →
-            OnOk result (D.plan disk.new ≡ Some (reads_passed (pieces_of (area_bytes area t)) (read_passed (read_passed (change_passed p))))) }
         ensures limit { IfOk result (λ opened. opened.0.limit ≡ limit) }
         ensures finds { (t : Told) → Tells (D.told disk.old) (D.honest disk.old) t → Finds (λ opened. opened.1.items) (records_in (reads t)) result }
         ensures log { (t : Told) → Tells (D.told disk.old) (D.honest disk.old) t → IfOk result (λ opened. IsFound limit opened.1.items (stands Journal (reads t)) opened.0) }
@@ -92,7 +89,9 @@ impl GateLog {
         ensures stands { (u : Told) → Tells (D.told disk.new) (D.honest disk.new) u → IfOk result (λ opened. IsLogOf opened.0 (reads u)) }
         ensures done { (u : Told) → Tells (D.told disk.new) (D.honest disk.new) u → OnOk result (IsSettled u) }
         ensures honest { D.honest disk.new ≡ D.honest disk.old }
+        ensures goes { GoesBy open_ops (D.memory disk.old) (D.memory disk.new) (log_ending result) }
         ensures causes { LogCauses (D.faults disk.old) (D.faults disk.new) result }
+        ensures wants { D.wants disk.old ≤ D.wants disk.new }
     {
         disk.sync()?; // nothing is pending
         find(alloc, disk, limit)
@@ -123,7 +122,9 @@ impl GateLog {
         ensures stands { (u : Told) → Tells (D.told disk.new) (D.honest disk.new) u → IfOk result (λ log. IsLogOf log (reads u)) }
         ensures done { (u : Told) → Tells (D.told disk.new) (D.honest disk.new) u → OnOk result (IsSettled u) }
         ensures honest { D.honest disk.new ≡ D.honest disk.old }
+        ensures goes { GoesBy (compact_ops self body.now) (D.memory disk.old) (D.memory disk.new) (log_ending result) }
         ensures causes { LogCauses (D.faults disk.old) (D.faults disk.new) result }
+        ensures wants { D.wants disk.old ≤ D.wants disk.new }
     {
         let end = 17 + body.room();
         if self.limit < end {
@@ -161,7 +162,9 @@ impl GateLog {
         ensures stands { (u : Told) → Tells (D.told disk.new) (D.honest disk.new) u → IfOk result (λ log. IsLogOf log (reads u)) }
         ensures done { (u : Told) → Tells (D.told disk.new) (D.honest disk.new) u → OnOk result (IsSettled u) }
         ensures honest { D.honest disk.new ≡ D.honest disk.old }
+        ensures goes { GoesBy (λ t. append_ops self body.now) (D.memory disk.old) (D.memory disk.new) (log_ending result) }
         ensures causes { LogCauses (D.faults disk.old) (D.faults disk.new) result }
+        ensures wants { LogWants (D.wants disk.old) (D.wants disk.new) result }
     {
         let end = self.end + body.room();
         if end > self.limit {
@@ -192,16 +195,6 @@ impl GateLog {
     }
 }
 
-// The other area of the journal.
-fn other(area: Area) -> Area
-    ensures { result ≡ other_of area }
-{
-    match area {
-        Area::Journal0 => Area::Journal1,
-        _ => Area::Journal0,
-    }
-}
-
 // The log that the areas stand for, and its records.
 fn find<D: Disk>(
     alloc: Global,
@@ -211,8 +204,6 @@ fn find<D: Disk>(
     requires limit { limit < 2 ^ 32 }
     requires settled { (t : Told) → Tells (D.told disk.old) (D.honest disk.old) t → IsSettled t }
     ensures room { IfOk result (λ opened. end_of opened.1.items < 2 ^ 63) }
-    ensures reads { (t : Told) (p : Plan) (area : Area) (generation : ℕ) → Tells (D.told disk.old) (D.honest disk.old) t → D.plan disk.old ≡ Some p → stands Journal (reads t) ≡ Ok (Some (area, generation)) →
-        OnOk result (D.plan disk.new ≡ Some (reads_passed (pieces_of (area_bytes area t)) (read_passed (read_passed p)))) }
     ensures limit { IfOk result (λ opened. opened.0.limit ≡ limit) }
     ensures finds { (t : Told) → Tells (D.told disk.old) (D.honest disk.old) t → Finds (λ opened. opened.1.items) (records_in (reads t)) result }
     ensures log { (t : Told) → Tells (D.told disk.old) (D.honest disk.old) t → IfOk result (λ opened. IsFound limit opened.1.items (stands Journal (reads t)) opened.0) }
@@ -223,7 +214,9 @@ fn find<D: Disk>(
     ensures holds { (t u : Told) → Tells (D.told disk.old) (D.honest disk.old) t → Tells (D.told disk.new) (D.honest disk.new) u → IfOk result (λ opened. Holds opened.0 opened.1.items (reads u)) }
     ensures done { (u : Told) → Tells (D.told disk.new) (D.honest disk.new) u → OnOk result (IsSettled u) }
     ensures honest { D.honest disk.new ≡ D.honest disk.old }
+    ensures goes { GoesBy find_ops (D.memory disk.old) (D.memory disk.new) (log_ending result) }
     ensures causes { LogCauses (D.faults disk.old) (D.faults disk.new) result }
+    ensures wants { D.wants disk.old ≤ D.wants disk.new }
 {
     match survey(disk, Pair::Journal)? {
         Standing::None => begin(alloc, disk, limit),
@@ -253,7 +246,9 @@ fn begin<D: Disk>(
     ensures moments { (t : Told) → Tells (D.told disk.old) (D.honest disk.old) t → LeavesOnly t (D.told disk.new) (SameRecords (reads t)) }
     ensures done { (u : Told) → Tells (D.told disk.new) (D.honest disk.new) u → OnOk result (IsSettled u) }
     ensures honest { D.honest disk.new ≡ D.honest disk.old }
+    ensures goes { GoesBy (renew_ops Journal0 (area_body 1 [])) (D.memory disk.old) (D.memory disk.new) (log_ending result) }
     ensures causes { LogCauses (D.faults disk.old) (D.faults disk.new) result }
+    ensures wants { D.wants disk.old ≤ D.wants disk.new }
 {
     let bytes = no_records(alloc, 1)?;
     renew(disk, Area::Journal0, &bytes)?;
@@ -279,12 +274,13 @@ fn resume<D: Disk>(
     ensures room { IfOk result (λ opened. end_of opened.1.items < 2 ^ 63) }
     ensures log { IfOk result (λ opened. opened.0 ≡ log_of area generation limit opened.1.items) }
     ensures finds { (t : Told) → Tells (D.told disk.old) (D.honest disk.old) t → Finds (λ opened. opened.1.items) (in_area area (walk_of (area_bytes area t))) result }
-    ensures reads { (t : Told) (p : Plan) → Tells (D.told disk.old) (D.honest disk.old) t → D.plan disk.old ≡ Some p → OnOk result (D.plan disk.new ≡ Some (reads_passed (pieces_of (area_bytes area t)) p)) }
     ensures content { (t : Told) → Tells (D.told disk.old) (D.honest disk.old) t → IfOk result (λ opened. StandsFor opened.1.items (area_bytes area t)) }
     ensures full { (len : ℕ) → IsErrOf result (Full len) → ⊥ }
     ensures told { D.told disk.new ≡ D.told disk.old }
     ensures honest { D.honest disk.new ≡ D.honest disk.old }
+    ensures goes { GoesBy (area_readings area) (D.memory disk.old) (D.memory disk.new) (log_ending result) }
     ensures causes { LogCauses (D.faults disk.old) (D.faults disk.new) result }
+    ensures wants { D.wants disk.old ≤ D.wants disk.new }
 {
     let bytes = read_all(alloc, disk, area)?;
     let (records, gate) = walk(alloc, area, &bytes)?;

@@ -5,14 +5,14 @@ use Rattle.mrp_types.specs.declared.id.RingId.{RingId}
 use Rattle.frames.specs.declared.frame.Frame.{Frame}
 use Rattle.frames.specs.declared.sent.Sent.{Sent}
 use Rattle.vote_state.specs.declared.change.Change.{Change}
-use Rattle.disk_model.specs.declared.call.Call.{Call}
 use Rattle.disk_model.specs.Calls.{Told}
+use Rattle.disk_model.specs.Running.{Op}
 use Rattle.gate_log.specs.Records.{end_of}
-use Rattle.gate_log.specs.Journal.{compact_calls}
-use Rattle.vote_journal.specs.Journal.{Journal, record_calls, recorded, recorded_end, compact_record}
+use Rattle.vote_journal.specs.Journal.{Journal, recorded, recorded_end, compact_record}
+use Rattle.vote_journal.specs.Operations.{record_ops, compaction_ops}
 use Rattle.ring_link.specs.Silence.{Link}
 use Rattle.mrp_config.specs.declared.tables.PartitionTable.{PartitionTable}
-use Rattle.checkpoint.specs.Checkpoints.{Checkpoints, save_calls}
+use Rattle.checkpoint.specs.Checkpoints.{Checkpoints, save_ops}
 use Rattle.plain_model.specs.Replicas.{Replica}
 use Rattle.plain_model.specs.StateBytes.{state_bytes}
 use Rattle.plain_model.specs.Tuples.{instances}
@@ -94,12 +94,12 @@ pub record Stepped : Type 0 where
   pub frames : List Sent
   pub lines : List Line
 
--- the device calls of a step's work, with their bytes, by the view before the step
-abbrev pub calls_of : View → Work → Told → List Call
-calls_of view Nothing told = []
-calls_of view (Records changes) told = record_calls view.journal changes
-calls_of view (Saves tuple state) told = save_calls view.checkpoints tuple state told
-calls_of view Compacts told = compact_calls view.journal.log (compact_record view.journal) told
+-- the operations of a step's work, with their bytes, by the view before the step
+abbrev pub ops_of : View → Work → Told → List Op
+ops_of view Nothing told = []
+ops_of view (Records changes) told = record_ops view.journal changes
+ops_of view (Saves tuple state) told = save_ops view.checkpoints tuple state told
+ops_of view Compacts told = compaction_ops view.journal told
 
 -- whether the journal's area would be longer than its limit: then no call is made
 abbrev pub is_full : View → Work → Bool

@@ -5,7 +5,9 @@
 //! begins a deployment: the lines behind it, up to `end`, are its text. `config NAME` is that text, and `config NAME OLD => NEW` the
 //! text with NEW in place of the first OLD. `journal AREA AREA` are the bytes of both areas of a journal, which node 0 opens: its
 //! verdict is the epoch and the promise of ring 1; of `opened AREA AREA` it is the two areas then, and of `compacted AREA AREA` the two
-//! areas after a compaction behind that.
+//! areas after a compaction behind that. `stops CALL FAULT NUMBER` is a call on a disk in memory on which `fuse`, `fail` or `fail_read` was
+//! set with this number: its verdict is how the call ends, whether a fuse has stopped it, and how many reads and then how many syncs
+//! pass, up to 20.
 //!
 //! `line TEXT` is a line of a transcript, `events NAME TEXT` a schedule over the deployment of that name, and `asked NAME TEXT` the text
 //! of a client. What is read is written again too. The number behind a fault is that of its line. In these texts, and in OLD and NEW,
@@ -19,6 +21,7 @@ mod bytes_of;
 mod faults;
 mod journals;
 mod readers;
+mod stops;
 #[cfg(test)]
 mod tests;
 mod texts;

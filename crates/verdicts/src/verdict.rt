@@ -4,6 +4,7 @@ use crate::bytes_of::{bytes_of_hex, text_of_config, with_control};
 use crate::faults::said;
 use crate::journals::{areas_of, compacted, found, opened};
 use crate::readers::{asked_verdict, bytes_verdict, config_verdict, events_verdict, line_verdict};
+use crate::stops::stops_verdict;
 use crate::texts::Texts;
 use mrp_config::Deployment;
 use mrp_types::{Memory, Octets};
@@ -25,6 +26,7 @@ pub fn verdict(alloc: Global, texts: &Texts, case: &str) -> Result<Octets, Memor
             Some(areas) => journal_verdict(alloc, word, areas),
             None => said(alloc, "no case"),
         },
+        "stops" => stops_verdict(alloc, rest),
         _ => match bytes_of_hex(alloc, rest)? {
             Some(bytes) => bytes_verdict(alloc, word, bytes.as_slice()),
             None => said(alloc, "no case"),

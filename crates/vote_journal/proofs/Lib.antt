@@ -1,3 +1,4 @@
+pub mod Going
 pub mod RecordLaws
 pub mod Recording
 pub mod Openings

@@ -17,8 +17,7 @@ use Rattle.gate_log.specs.declared.fault.LogFault.TheVariants as logs
 use Rattle.gate_log.specs.Journal.{Log, Holds, IsFound, records_in, log_at, append_calls, appended, find_calls, open_calls}
 use Rattle.gate_log.specs.Moments.{ChecksStay, OldOrNew, SameRecords, SinceSync, Finds}
 use Rattle.gate_log.specs.Moments as moments
-use Rattle.gate_log.proofs.Moves.{reads_image}
-use Rattle.gate_log.proofs.Phases.{and_then-and_then, leaves_as, leaves_on, makes_as, makes_on, told_is}
+use Rattle.gate_area.proofs.Phases.{and_then-and_then, leaves_as, leaves_on, makes_as, makes_on, told_is, reads_image}
 use Rattle.vote_state.specs.declared.change.Change.TheVariants.{Epoch}
 use Rattle.vote_state.specs.State.{State, nothing_kept, taken}
 use Rattle.vote_state.specs.Valid.{IsChange}

@@ -8,7 +8,7 @@ use Rattle.disk_model.specs.Calls.{Told, IsSettled, LeavesOnly, reads}
 use Rattle.gate_log.specs.Journal.{Log, Holds, IsLogOf, records_in}
 use Rattle.gate_log.specs.Moments.{OldOrNew}
 use Rattle.gate_log.proofs.Moves.{records_are}
-use Rattle.gate_log.proofs.Phases.{leaves_as, stays_leaves}
+use Rattle.gate_area.proofs.Phases.{leaves_as, stays_leaves}
 use Rattle.vote_state.specs.declared.change.Change.{Change}
 use Rattle.vote_state.specs.State.{State, taken}
 use Rattle.vote_state.specs.Valid.{IsChange}

@@ -15,7 +15,7 @@ use Rattle.command_codec.proofs.ReaderLaws.{bound, then_was, ok_is as read_is}
 use Rattle.command_codec.proofs.Combined.{shown_was, chosen}
 use Rattle.gate_log.specs.Journal.{Log, Holds}
 use Rattle.gate_log.specs.Moments.{OldOrNew}
-use Rattle.gate_log.proofs.Phases.{leaves_as}
+use Rattle.gate_area.proofs.Phases.{leaves_as}
 use Rattle.mrp_types.specs.declared.voted.Voted.{Voted}
 use Rattle.vote_state.specs.declared.ring.RingState.{RingState}
 use Rattle.vote_state.specs.declared.change.Change.{Change}

@@ -1,13 +1,16 @@
 //! One record in place of all.
 
-ghost use Rattle.std.specs.Prelude.{◌≡◌, ◌⊎◌, ◌+◌, ◌-◌, ◌<◌, ◌^◌, ℕ, List, [], ◌∷◌, length, OnOk, IfOk, IsErrOf, MatchResult};
+ghost use Rattle.std.specs.Prelude.{◌≡◌, ◌⊎◌, ◌≤◌, ◌+◌, ◌-◌, ◌<◌, ◌^◌, ℕ, List, [], ◌∷◌, length, OnOk, IfOk, IsErrOf, MatchResult};
 ghost use Rattle.disk_model.specs.Calls.{Told, Tells, Makes, MakesFirst, LeavesOnly, IsSettled, reads};
+ghost use Rattle.disk_model.specs.Running.{GoesBy};
 ghost use Rattle.disk_model.specs.declared.area.Area.{Area as SomeArea};
 ghost use Rattle.gate_log.specs.Journal.{Holds, IsLogOf, compact_calls, compacted};
+ghost use Rattle.gate_log.specs.Operations.{compact_ops, log_ending};
 ghost use Rattle.gate_log.specs.Moments.{LogCauses, OldOrNew};
 ghost use Rattle.gate_log.specs.declared.fault.LogFault.TheVariants.{Full as LogFull, Memory as LogMemory, Damaged as LogDamaged};
 ghost use Rattle.vote_journal.specs.Faults.{JournalCauses};
 ghost use Rattle.vote_journal.specs.Journal.{Stands, BeforeOrAfter, compact_record, compacted_journal};
+ghost use Rattle.vote_journal.specs.Operations.{compaction_ops, journal_ending};
 ghost use Rattle.vote_journal.specs.declared.fault.JournalFault.TheVariants.{Full, Memory};
 
 use crate::{JournalFault, VoteJournal, write_first};
@@ -35,7 +38,9 @@ impl VoteJournal {
         ensures stands { (u : Told) → Tells (D.told disk.new) (D.honest disk.new) u → IfOk result (λ journal. Stands journal (reads u)) }
         ensures done { (u : Told) → Tells (D.told disk.new) (D.honest disk.new) u → OnOk result (IsSettled u) }
         ensures honest { D.honest disk.new ≡ D.honest disk.old }
+        ensures goes { GoesBy (compaction_ops self) (D.memory disk.old) (D.memory disk.new) (journal_ending result) }
         ensures causes { JournalCauses (D.faults disk.old) (D.faults disk.new) result }
+        ensures wants { D.wants disk.old ≤ D.wants disk.new }
     {
         let VoteJournal {
             alloc,
@@ -77,7 +82,9 @@ fn replace_records<D: Disk>(
         Holds log records (reads t) → IfOk result (λ next. Holds next (bytes.now ∷ []) (reads u)) }
     ensures done { (u : Told) → Tells (D.told disk.new) (D.honest disk.new) u → OnOk result (IsSettled u) }
     ensures honest { D.honest disk.new ≡ D.honest disk.old }
+    ensures goes { GoesBy (compact_ops log bytes.now) (D.memory disk.old) (D.memory disk.new) (log_ending result) }
     ensures causes { LogCauses (D.faults disk.old) (D.faults disk.new) result }
+    ensures wants { D.wants disk.old ≤ D.wants disk.new }
 {
     let mut body = Body::new(alloc);
     body.push(bytes)?;

@@ -3,6 +3,9 @@
 ghost use Rattle.std.specs.Prelude.{◌≡◌, ◌⊎◌, ◌≤◌, ◌<◌, ◌+◌, ◌-◌, ◌^◌, ◌++◌, ℕ, List, [], ◌∷◌, length, OnOk, IfOk, IsErrOf, IsTrue, MatchResult};
 ghost use Rattle.std.specs.List.{AllByRecursion};
 ghost use Rattle.disk_model.specs.Calls.{Told, Tells, Makes, MakesFirst, LeavesOnly, IsSettled, reads};
+ghost use Rattle.disk_model.specs.Causes.{Rose};
+ghost use Rattle.disk_model.specs.Running.{GoesBy};
+ghost use Rattle.gate_log.specs.Operations.{append_ops, log_ending};
 ghost use Rattle.gate_log.specs.Journal.{Holds, IsLogOf, append_calls, appended};
 ghost use Rattle.gate_log.specs.Moments.{LogCauses, OldOrNew};
 ghost use Rattle.gate_log.specs.declared.fault.LogFault.TheVariants.{Full as LogFull, Memory as LogMemory, Damaged as LogDamaged};
@@ -12,6 +15,7 @@ ghost use Rattle.vote_state.specs.Valid.{IsChange};
 ghost use Rattle.vote_journal.specs.Epochs.{epochs_rise};
 ghost use Rattle.vote_journal.specs.Faults.{JournalCauses};
 ghost use Rattle.vote_journal.specs.Journal.{Stands, BeforeOrAfter, record_calls, recorded, recorded_end};
+ghost use Rattle.vote_journal.specs.Operations.{journal_ending, record_ops};
 ghost use Rattle.vote_journal.specs.declared.fault.JournalFault.TheVariants.{Full, Memory};
 
 use crate::{JournalFault, write_changes};
@@ -94,7 +98,11 @@ impl VoteJournal {
         ensures stands { (u : Told) → Tells (D.told disk.new) (D.honest disk.new) u → IfOk result (λ journal. Stands journal (reads u)) }
         ensures done { (u : Told) → Tells (D.told disk.new) (D.honest disk.new) u → OnOk result (IsSettled u) }
         ensures honest { D.honest disk.new ≡ D.honest disk.old }
+        ensures goes { GoesBy (λ t. record_ops self changes.now) (D.memory disk.old) (D.memory disk.new) (journal_ending result) }
         ensures causes { JournalCauses (D.faults disk.old) (D.faults disk.new) result }
+        // its own memory is taken before the first call
+        ensures early { IsErrOf result Memory → (disk.new ≡ disk.old) ⊎ Rose (D.wants disk.old) (D.wants disk.new) }
+        ensures wants { D.wants disk.old ≤ D.wants disk.new }
     {
         if changes.items().is_empty() {
             return Ok(self);
@@ -139,7 +147,10 @@ pub(crate) fn write_record<D: Disk>(
         Holds log records (reads t) → IfOk result (λ next. Holds next (records ++ bytes.now ∷ []) (reads u)) }
     ensures done { (u : Told) → Tells (D.told disk.new) (D.honest disk.new) u → OnOk result (IsSettled u) }
     ensures honest { D.honest disk.new ≡ D.honest disk.old }
+    ensures goes { GoesBy (λ t. append_ops log bytes.now) (D.memory disk.old) (D.memory disk.new) (log_ending result) }
     ensures causes { LogCauses (D.faults disk.old) (D.faults disk.new) result }
+    ensures early { IsErrOf result LogMemory → (disk.new ≡ disk.old) ⊎ Rose (D.wants disk.old) (D.wants disk.new) }
+    ensures wants { D.wants disk.old ≤ D.wants disk.new }
 {
     let mut body = Body::new(alloc);
     body.push(bytes)?;

@@ -22,6 +22,3 @@ pub use journal::VoteJournal;
 pub use laws::{what_stands_is_the_state, what_was_written_is_opened};
 pub use record::{First, write_changes, write_first};
 pub use record_reading::{read_changes, read_first};
-
-#[cfg(test)]
-mod tests;

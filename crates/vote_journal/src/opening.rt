@@ -2,12 +2,14 @@
 
 ghost use Rattle.std.specs.Prelude.{◌≡◌, ◌⊎◌, ◌≤◌, ◌<◌, ◌+◌, ◌^◌, ◌==◌, ◌++◌, ℕ, List, [], ◌∷◌, length, OnOk, IfOk, IsErrOf, IsTrue, MatchResult, Ok, Err};
 ghost use Rattle.disk_model.specs.Calls.{Told, Tells, Makes, MakesFirst, LeavesOnly, IsSettled, reads};
+ghost use Rattle.disk_model.specs.Running.{GoesBy};
 ghost use Rattle.gate_log.specs.Records.{room, end_of};
 ghost use Rattle.gate_log.specs.Journal.{Log, Holds, records_in};
 ghost use Rattle.gate_log.specs.Moments.{SinceSync};
 ghost use Rattle.vote_state.specs.State.{State, taken};
 ghost use Rattle.vote_journal.specs.Faults.{Says, OpenCauses};
 ghost use Rattle.vote_journal.specs.Journal.{Stands, OpensBy, OpenLeaves, IsOpened, opening_calls, opened_state, record_of, epoch_record};
+ghost use Rattle.vote_journal.specs.Operations.{open_ending, opening_ops};
 ghost use Rattle.vote_journal.specs.declared.fault.OpenFault.TheVariants.{Memory as NoMemory, Disk};
 ghost use Rattle.vote_state.specs.Valid.{IsChange};
 ghost use Rattle.std.specs.List.{AllByRecursion};
@@ -43,7 +45,9 @@ impl VoteJournal {
         ensures stands { (u : Told) → Tells (D.told disk.new) (D.honest disk.new) u → IfOk result (λ journal. Stands journal (reads u)) }
         ensures done { (u : Told) → Tells (D.told disk.new) (D.honest disk.new) u → OnOk result (IsSettled u) }
         ensures honest { D.honest disk.new ≡ D.honest disk.old }
+        ensures goes { GoesBy (opening_ops id limit) (D.memory disk.old) (D.memory disk.new) (open_ending result) }
         ensures causes { OpenCauses (D.faults disk.old) (D.faults disk.new) result }
+        ensures wants { D.wants disk.old ≤ D.wants disk.new }
     {
         let (log, records) = GateLog::open(alloc, disk, limit)?;
         let state = judge(alloc, id, &records)?;

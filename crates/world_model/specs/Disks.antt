@@ -1,58 +1,12 @@
--- The disk of a node: what its calls do to it, and where they fail.
-use Rattle.std.specs.Prelude.{ℕ, Bool, true, false, if◌then◌else◌, List, [], ◌∷◌, Some, Result, Ok, Err}
-use Rattle.disk_model.specs.declared.area.Refused.{Refused}
-use Rattle.disk_model.specs.declared.area.Refused.TheVariants.{Failed}
+-- The disk of a node: why it stops, what it stands for between steps, and the faults that are set.
+use Rattle.std.specs.Prelude.{ℕ, if◌then◌else◌, List, [], ◌∷◌, Some}
 use Rattle.disk_model.specs.declared.areas.Areas.{Areas}
 use Rattle.disk_model.specs.declared.call.Call.{Call}
 use Rattle.disk_model.specs.declared.plan.Plan.{Plan}
 use Rattle.disk_model.specs.Calls.{begun, reads}
-use Rattle.disk_model.specs.Causes.{falls_on_change, falls_on_read, no_trouble}
-use Rattle.disk_model.specs.Sim.{Sim, after_change, after_read}
+use Rattle.disk_model.specs.Causes.{no_trouble}
+use Rattle.disk_model.specs.Sim.{Sim}
 use Rattle.protocol.specs.Lines.{Cause, Crash, Disk}
-
--- ---- calls, one after another
-
--- One call of a device. What a read gives is known, so only that it is made counts. A question for a length isn't listed:
--- only a fuse that burnt down makes it fail, and then the next change fails in the same way.
-pub data Op : Type 0 where
-  Reads : Op
-  Does : Call → Op
-
--- the disk after some calls, and whether all of them passed
-pub record Ran : Type 0 where
-  pub disk : Sim
-  pub done : Bool
-
-abbrev pub passes : Result (Unit {0}) Refused
-passes = Ok tt
-
-abbrev pub fails : Result (Unit {0}) Refused
-fails = Err Failed
-
--- whether the plan of faults falls on a call
-abbrev pub falls_on : Plan → Op → Bool
-falls_on plan Reads = falls_on_read plan
-falls_on plan (Does call) = falls_on_change plan
-
--- the disk after a call, by whether it failed
-abbrev pub after_op : Op → Result (Unit {0}) Refused → Sim → Sim
-after_op Reads result disk = after_read disk result
-after_op (Does call) result disk = after_change disk call result
-
--- the first call that fails is the last one, and has no effect
-abbrev pub by_fault : Op → Sim → (Sim → Ran) → Bool → Ran
-by_fault op disk more true = record { disk = after_op op fails disk; done = false }
-by_fault op disk more false = more (after_op op passes disk)
-
-unfoldable pub ran : List Op → Sim → Ran
-ran [] disk = record { disk = disk; done = true }
-ran (op ∷ ops) disk = by_fault op disk (λ next. ran ops next) (falls_on disk.trouble.plan op)
-
--- the calls that change the disk, in order
-abbrev pub changes_in : List Op → List Call
-changes_in [] = []
-changes_in (Reads ∷ ops) = changes_in ops
-changes_in (Does call ∷ ops) = call ∷ changes_in ops
 
 -- Why a node stops whose call failed: it crashed where a fuse has stopped the call.
 abbrev pub cause_of : Sim → Cause

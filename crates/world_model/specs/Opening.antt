@@ -1,5 +1,5 @@
 -- The opening of a node on its areas: the device calls in order, and what they find.
-use Rattle.std.specs.Prelude.{ℕ, ◌+◌, ◌/◌, nat_lt, if◌then◌else◌, List, [], ◌∷◌, ◌++◌, length, map, replicate, Option, Some, None, Result, Ok, Err}
+use Rattle.std.specs.Prelude.{ℕ, ◌+◌, nat_lt, if◌then◌else◌, List, [], ◌∷◌, ◌++◌, Option, Some, None, Result, Ok, Err}
 use Rattle.mrp_types.specs.declared.id.NodeId.{NodeId}
 use Rattle.disk_model.specs.declared.area.Area.{Area}
 use Rattle.disk_model.specs.declared.area.Area.TheVariants.{Journal0}
@@ -8,9 +8,12 @@ use Rattle.disk_model.specs.declared.call.Call.TheVariants.{Sync}
 use Rattle.disk_model.specs.Areas.{bytes_of}
 use Rattle.disk_model.specs.Calls.{begun}
 use Rattle.gate_area.specs.declared.pair.Pair.TheVariants.{Journal as JournalPair, Check as CheckPair}
+use Rattle.disk_model.specs.Running.{Op, Does}
+use Rattle.gate_area.specs.Operations.{readings, survey_ops}
 use Rattle.gate_area.specs.Standing.{stands}
 use Rattle.gate_log.specs.Records.{walk_of}
-use Rattle.gate_log.specs.Journal.{Log, log_of, append_calls, appended, begin_calls}
+use Rattle.gate_log.specs.Journal.{Log, log_of, appended}
+use Rattle.gate_log.specs.Operations.{append_ops, standing_ops}
 use Rattle.vote_state.specs.State.{State}
 use Rattle.vote_journal.specs.declared.fault.OpenFault.{OpenFault}
 use Rattle.vote_journal.specs.Journal.{Journal, state_of, opened_state, epoch_record}
@@ -22,7 +25,6 @@ use Rattle.plain_model.specs.StateBytes.{whole_state, fault_position}
 use Rattle.plain_model.specs.Tuples.{round_sizes, is_tuple_of}
 use Rattle.checkpoint.specs.Checkpoints.{Checkpoints, Checkpoint, checkpoints_of, place}
 use Rattle.protocol.specs.Lines.{Cause, Disk, Full}
-use Rattle.world_model.specs.Disks.{Op, Reads, Does}
 
 -- the device calls of an opening in order, and what they find, or why the node stops where all of them passed
 pub record Opening (T : Type 0) : Type 0 where
@@ -31,19 +33,11 @@ pub record Opening (T : Type 0) : Type 0 where
 
 -- ---- what is read
 
--- a survey reads 17 bytes of each of its two areas
-abbrev pub survey : List Op
-survey = Reads ∷ Reads ∷ []
-
--- an area is read in pieces of 65,536 bytes until one gives fewer
-abbrev pub readings : List ℕ → List Op
-readings file = replicate (length file / 65536 + 1) Reads
-
 -- the area that stands is read, where one does
-abbrev pub area_readings : Areas → Result (Option (Area × ℕ)) (Area × ℕ) → List Op
-area_readings areas (Err spot) = []
-area_readings areas (Ok None) = []
-area_readings areas (Ok (Some (area, generation))) = readings (bytes_of area areas)
+abbrev pub checks_read : Areas → Result (Option (Area × ℕ)) (Area × ℕ) → List Op
+checks_read areas (Err spot) = []
+checks_read areas (Ok None) = []
+checks_read areas (Ok (Some (area, generation))) = readings (bytes_of area areas)
 
 -- ---- the journal
 
@@ -65,13 +59,14 @@ found_by limit areas (Ok (Some (area, generation))) = found_in area generation l
 
 -- one sync, the survey, and then a new journal or what is read of the one that stands
 abbrev pub finding_by : Areas → Result (Option (Area × ℕ)) (Area × ℕ) → List Op
-finding_by areas standing = Does Sync ∷ (survey ++ (map Does (begin_calls standing (begun areas)) ++ area_readings areas standing))
+finding_by areas standing = Does Sync ∷ (survey_ops ++ standing_ops standing (begun areas))
 
 -- the opening of a journal found: its calls after those that found it
 abbrev pub with_epoch : NodeId → Log → State → List ℕ → Opening Journal
-with_epoch id log s r =
-    if nat_lt log.limit (appended log r).end then record { work = []; result = Err Full }
-    else record { work = map Does (append_calls log r); result = Ok (record { id = id; log = appended log r; state = s }) }
+with_epoch id log s r = record {
+  work = append_ops log r;
+  result = if nat_lt log.limit (appended log r).end then Err Full else Ok (record { id = id; log = appended log r; state = s });
+}
 
 -- an epoch more, unless it is the last one
 abbrev pub next_journal : NodeId → Found → State → Result State OpenFault → Opening Journal
@@ -117,7 +112,7 @@ found_checkpoints (Err spot) = Err Disk
 -- the survey, and what is read of the area that stands
 abbrev pub opened_checks : Config → NodeId → Areas → Result (Option (Area × ℕ)) (Area × ℕ) → Opening Checkpoints
 opened_checks config id areas standing = record {
-  work = survey ++ area_readings areas standing;
+  work = survey_ops ++ checks_read areas standing;
   result = found_checkpoints (judged_checkpoints config id (checkpoints_of areas standing));
 }
 

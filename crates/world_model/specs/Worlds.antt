@@ -26,11 +26,12 @@ use Rattle.disk_model.specs.Crash.{left_by}
 use Rattle.disk_model.specs.Sim.{Sim, fresh}
 use Rattle.protocol.specs.Lines.{Line, Cause, Crash, Full}
 use Rattle.protocol.specs.Lines as line
-use Rattle.protocol.specs.Node.{View, Event, Ticks, Takes, Leads, Stepped, calls_of, is_full, state_shown}
+use Rattle.protocol.specs.Node.{View, Event, Ticks, Takes, Leads, Stepped, ops_of, is_full, state_shown}
 use Rattle.protocol.specs.Opening.{opened}
 use Rattle.protocol.specs.Step.{step}
 use Rattle.protocol.specs.Client.{ClientView, ClientEffects, new_client, asks, client_ticks, client_takes}
-use Rattle.world_model.specs.Disks.{Does, Ran, ran, cause_of, settled, no_plan, with_fuse, with_fail, with_fail_read, with_plan, restarted}
+use Rattle.disk_model.specs.Running.{Op, Ran, ran, changes_in}
+use Rattle.world_model.specs.Disks.{cause_of, settled, no_plan, with_fuse, with_fail, with_fail_read, with_plan, restarted}
 use Rattle.world_model.specs.Opening.{Opening, Kept, opening}
 use Rattle.world_model.specs.Events.{ScheduleEvent}
 use Rattle.world_model.specs.Events as event
@@ -117,13 +118,13 @@ worked id made calls disk false w = goes_down id disk (cause_of disk) w
 abbrev pub worked_by : NodeId → Stepped → List Call → Ran → World → Outcome
 worked_by id made calls now w = worked id made calls now.disk now.done w
 
-abbrev pub works : NodeId → Stepped → List Call → Sim → World → Outcome
-works id made calls disk w = worked_by id made calls (ran (map Does calls) disk) w
+abbrev pub works : NodeId → Stepped → List Op → Sim → World → Outcome
+works id made ops disk w = worked_by id made (changes_in ops) (ran ops disk) w
 
 -- where the record wouldn't fit, no call is made
 abbrev pub unless_full : NodeId → View → Stepped → Sim → Bool → World → Outcome
 unless_full id view made disk true w = goes_down id disk Full w
-unless_full id view made disk false w = works id made (calls_of view made.work disk.told) disk w
+unless_full id view made disk false w = works id made (ops_of view made.work disk.told) disk w
 
 abbrev pub stepped_as : NodeId → View → Sim → Stepped → World → Outcome
 stepped_as id view disk made w = unless_full id view made disk (is_full view made.work) w

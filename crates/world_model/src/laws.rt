@@ -12,8 +12,8 @@ ghost use Rattle.disk_model.specs.Sim.{Sim};
 ghost use Rattle.disk_model.specs.declared.areas.Areas.{Areas};
 ghost use Rattle.mrp_types.specs.declared.id.NodeId.{NodeId};
 ghost use Rattle.mrp_config.specs.Config.{Config};
-ghost use Rattle.protocol.specs.Node.{View, Work, calls_of};
-ghost use Rattle.world_model.specs.Disks.{Op, ran, changes_in};
+ghost use Rattle.protocol.specs.Node.{View, Work, ops_of};
+ghost use Rattle.disk_model.specs.Running.{Op, ran, changes_in};
 ghost use Rattle.world_model.specs.Opening.{Kept, opening};
 ghost use Rattle.world_model.specs.Events.{ScheduleEvent};
 ghost use Rattle.world_model.specs.Worlds.{World, Down, comes_back};
@@ -29,10 +29,10 @@ pub fn areas_tell_a_settled_disk()
 
 /// The work of a step leaves nothing pending.
 pub fn work_is_settled()
-    ensures { (view : View) (work : Work) (t : Told) → IsSettled t → IsSettled (and_then t (calls_of view work t)) }
+    ensures { (view : View) (work : Work) (t : Told) → IsSettled t → IsSettled (and_then t (changes_in (ops_of view work t))) }
 {}
 
-/// Calls that all passed have changed the disk in their order; where one failed, the first of them have.
+/// Operations that all passed have changed the disk in their order; where one failed, the first of them have.
 pub fn what_passed_took_effect()
     ensures all { (ops : List Op) (disk : Sim) → (ran ops disk).done ≡ true → (ran ops disk).disk.told ≡ and_then disk.told (changes_in ops) }
     ensures some { (ops : List Op) (disk : Sim) → (j : ℕ) × ((ran ops disk).disk.told ≡ and_then disk.told (take j (changes_in ops))) }

@@ -1,9 +1,14 @@
 use Rattle.std.proofs.Common.{[], List, ℕ, length, refl, ap, ◌∙◌, subst, arith}
 use Rattle.disk_model.specs.declared.area.Area.TheVariants.{Journal0}
 use Rattle.disk_model.specs.Calls.{reads}
-use Rattle.gate_log.specs.Moments.{SameRecords, RenewLeaves}
-use Rattle.gate_log.proofs.Phases.{leaves_as, stays_leaves}
+use Rattle.gate_log.specs.Moments.{SameRecords}
+use Rattle.gate_area.specs.Gate.{RenewLeaves}
+use Rattle.gate_area.proofs.Phases.{leaves_as, stays_leaves}
 use Rattle.gate_log.proofs.Renewals.{length-body, fresh_same}
+use Rattle.disk_model.specs.Running.{refused_ending, Passed}
+use Rattle.gate_log.proofs.Going.{begin_goes, refused_goes, wanted_goes}
+use Rattle.gate_area.specs.Operations.{renew_ops}
+use Rattle.gate_log.specs.Records.{area_body}
 use Rattle.gate_log.proofs.log.begin.Goals as goal
 
 pub returns-in_err-bytes-clause-moments : goal.returns-in_err-bytes-clause-moments
@@ -22,3 +27,15 @@ pub returns-clause-moments : goal.returns-clause-moments
 returns-clause-moments g c t tells =
     leaves_as t (g.D.Disk.told c.renew.new.disk) (RenewLeaves Journal0 c.deref.result.now (reads t)) (SameRecords (reads t)) (c.renew.ensures.moments t tells)
     (λ image leaves. fresh_same (reads t) image (c.requires.fresh t tells) (subst (λ (b : List ℕ). RenewLeaves Journal0 b (reads t) image) (c.deref.ensures.value ∙ c.in_ok-bytes.ensures) leaves))
+
+pub returns-in_err-bytes-clause-goes : goal.returns-in_err-bytes-clause-goes
+returns-in_err-bytes-clause-goes g c = wanted_goes (renew_ops Journal0 (area_body 1 [])) (g.D.Disk.memory c.args.disk.now) (g.D.Disk.memory c.args.disk.now) c.from_residual.result c.from_residual.ensures.1
+
+pub returns-in_err-renew-clause-goes : goal.returns-in_err-renew-clause-goes
+returns-in_err-renew-clause-goes g c =
+    refused_goes (renew_ops Journal0 (area_body 1 [])) (g.D.Disk.memory c.args.disk.now) (g.D.Disk.memory c.renew.new.disk) c.in_err-renew.field-0.0 c.from_residual-in_err-renew.result c.from_residual-in_err-renew.ensures.1
+    (begin_goes c.deref.result.now (g.D.Disk.memory c.args.disk.now) (g.D.Disk.memory c.renew.new.disk) (refused_ending c.in_err-renew.field-0.0) (c.deref.ensures.value ∙ c.in_ok-bytes.ensures) c.in_err-renew.ensures.goes)
+
+pub returns-clause-goes : goal.returns-clause-goes
+returns-clause-goes g c =
+    begin_goes c.deref.result.now (g.D.Disk.memory c.args.disk.now) (g.D.Disk.memory c.renew.new.disk) Passed (c.deref.ensures.value ∙ c.in_ok-bytes.ensures) c.in_ok-renew.ensures.goes

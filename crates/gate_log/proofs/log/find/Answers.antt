@@ -1,20 +1,21 @@
-use Rattle.std.proofs.Common.{◌≡◌, ◌∙◌, sym, ap, refl, subst, [], List, ℕ, Ok, OnOk, Some}
+use Rattle.std.proofs.Common.{◌≡◌, ◌∙◌, sym, ap, refl, subst, [], List, ℕ, Ok, OnOk, Some, None}
 use Rattle.disk_model.specs.declared.area.Area.TheVariants.{Journal0}
 use Rattle.disk_model.specs.declared.area.Area.{Area}
 use Rattle.disk_model.specs.Areas.{bytes_of}
-use Rattle.disk_model.specs.Causes.{read_passed}
 use Rattle.disk_model.specs.Calls.{Told, area_bytes, reads}
 use Rattle.disk_model.proofs.Reading.{reads-bytes}
 use Rattle.gate_area.specs.declared.pair.Pair.TheVariants.{Journal}
 use Rattle.gate_area.specs.Standing.{stands}
 use Rattle.gate_log.specs.Journal.{begin_calls, find_calls, in_area, log_of, records_in, records_of}
 use Rattle.gate_log.specs.Moments.{Finds, IsWant, SameRecords, surveyed_as}
-use Rattle.gate_log.specs.Reading.{pieces_of, reads_passed}
 use Rattle.gate_log.specs.Records.{StandsFor, walk_of}
-use Rattle.gate_log.proofs.Answering.{Found, errs, finds_fault, fresh_stands, area_stands, finds_fresh, both, if_ok, on_ok, always_ok, causes_fault, holds_fresh, holds_standing, found_fresh, found_standing, fresh_has_none, one_stands}
+use Rattle.gate_log.proofs.Answering.{Found, errs, finds_fault, fresh_stands, area_stands, finds_fresh, both, if_ok, on_ok, always_ok, causes_fault, holds_fresh, holds_standing, found_fresh, found_standing}
 use Rattle.gate_log.proofs.Moves.{Judgement}
 use Rattle.gate_log.proofs.Opens.{tells_as, fresh_makes, fresh_some, fresh_log}
-use Rattle.gate_log.proofs.Phases.{stays_leaves, makes_none, makes_first_none, makes_as, told_is}
+use Rattle.gate_area.proofs.Phases.{stays_leaves, makes_none, makes_first_none, makes_as, told_is}
+use Rattle.disk_model.specs.Running.{Passed}
+use Rattle.gate_log.proofs.Going.{found_goes, survey_goes}
+use Rattle.gate_log.specs.Operations.{log_ending}
 use Rattle.gate_log.proofs.log.find.Goals as goal
 
 pub returns-in_err-survey-clause-finds : goal.returns-in_err-survey-clause-finds
@@ -103,13 +104,19 @@ returns-in-At-clause-log g c t tells =
     found_standing c.resume.result c.in-At.area c.in-At.generation c.args.limit (reads t) c.resume.ensures.log
     (area_stands (reads t) c.in-At.area c.in-At.generation c.in-At.len (c.in_ok-survey.ensures.answer t tells ∙ ap Ok c.in-At.is))
 
-pub returns-in-None-clause-reads : goal.returns-in-None-clause-reads
-returns-in-None-clause-reads g c t p area generation tells plan stood =
-    absurd (fresh_has_none (stands Journal (reads t)) area generation (fresh_stands (reads t) (c.in_ok-survey.ensures.answer t tells ∙ ap Ok c.in-None.is)) stood)
+pub returns-in_err-survey-clause-goes : goal.returns-in_err-survey-clause-goes
+returns-in_err-survey-clause-goes g c =
+    survey_goes c.in_err-survey.field-0.0 c.from_residual.result (g.D.Disk.memory c.args.disk.now) (g.D.Disk.memory c.survey.new.disk)
+    (λ d is. c.in_err-survey.ensures.answer d.told (g.met.D.Disk.tells c.args.disk.now d is)) c.from_residual.ensures.1 c.in_err-survey.ensures.goes
 
-pub returns-in-At-clause-reads : goal.returns-in-At-clause-reads
-returns-in-At-clause-reads g c t p area generation tells plan stood =
-    let mid = tells_as (g.D.Disk.told c.args.disk.now) (g.D.Disk.told c.survey.new.disk) (g.D.Disk.honest c.args.disk.now) (g.D.Disk.honest c.survey.new.disk) t c.survey.ensures.told c.survey.ensures.honest tells in
-    let same = one_stands (stands Journal (reads t)) c.in-At.area area c.in-At.generation generation (area_stands (reads t) c.in-At.area c.in-At.generation c.in-At.len (c.in_ok-survey.ensures.answer t tells ∙ ap Ok c.in-At.is)) stood in
-    subst (λ (a : Area). OnOk c.resume.result (g.D.Disk.plan c.resume.new.disk ≡ Some (reads_passed (pieces_of (area_bytes a t)) (read_passed (read_passed p))))) same
-    (c.resume.ensures.reads t (read_passed (read_passed p)) mid (c.in_ok-survey.ensures.reads p plan))
+pub returns-in-None-clause-goes : goal.returns-in-None-clause-goes
+returns-in-None-clause-goes g c =
+    found_goes (Ok None) (g.D.Disk.memory c.args.disk.now) (g.D.Disk.memory c.survey.new.disk) (g.D.Disk.memory c.begin.new.disk) (log_ending c.begin.result)
+    (λ d is. fresh_stands (reads d.told) (c.in_ok-survey.ensures.answer d.told (g.met.D.Disk.tells c.args.disk.now d is) ∙ ap Ok c.in-None.is))
+    c.in_ok-survey.ensures.goes c.begin.ensures.goes
+
+pub returns-in-At-clause-goes : goal.returns-in-At-clause-goes
+returns-in-At-clause-goes g c =
+    found_goes (Ok (Some (c.in-At.area, c.in-At.generation))) (g.D.Disk.memory c.args.disk.now) (g.D.Disk.memory c.survey.new.disk) (g.D.Disk.memory c.resume.new.disk) (log_ending c.resume.result)
+    (λ d is. area_stands (reads d.told) c.in-At.area c.in-At.generation c.in-At.len (c.in_ok-survey.ensures.answer d.told (g.met.D.Disk.tells c.args.disk.now d is) ∙ ap Ok c.in-At.is))
+    c.in_ok-survey.ensures.goes c.resume.ensures.goes

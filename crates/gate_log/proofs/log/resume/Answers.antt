@@ -1,20 +1,26 @@
-use Rattle.std.proofs.Common.{◌∙◌, sym, subst, List, ℕ}
+use Rattle.std.proofs.Common.{◌≡◌, ◌∙◌, subst, List, ℕ}
 use Rattle.disk_model.specs.Calls.{area_bytes}
 use Rattle.gate_log.specs.Journal.{in_area}
-use Rattle.gate_log.specs.Moments.{IsWant}
+use Rattle.gate_log.specs.Moments.{refused_as}
 use Rattle.gate_log.specs.Records.{StandsFor, walk_of}
-use Rattle.gate_log.proofs.Answering.{errs, finds_want, never_full}
+use Rattle.gate_log.proofs.Answering.{errs, finds_refused}
+use Rattle.gate_area.specs.Operations.{area_readings}
+use Rattle.gate_log.proofs.Going.{refused_goes, walk_goes}
 use Rattle.gate_log.proofs.log.resume.Goals as goal
 
 pub returns-in_err-bytes-clause-finds : goal.returns-in_err-bytes-clause-finds
 returns-in_err-bytes-clause-finds g c t tells =
-    finds_want (λ opened. opened.1.items) (in_area c.args.area (walk_of (area_bytes c.args.area t))) c.from_residual.result
-    (errs c.from_residual.result _ IsWant c.from_residual.ensures.1 (λ e same. subst IsWant (sym same) c.in_err-bytes.ensures.want))
+    finds_refused (λ opened. opened.1.items) (in_area c.args.area (walk_of (area_bytes c.args.area t))) c.in_err-bytes.field-0.0 c.from_residual.result
+    (errs c.from_residual.result _ (λ e. e ≡ refused_as c.in_err-bytes.field-0.0) c.from_residual.ensures.1 (λ e same. same))
 
-pub returns-in_err-bytes-clause-full : goal.returns-in_err-bytes-clause-full
-returns-in_err-bytes-clause-full g c len is =
-    never_full c.from_residual.result len
-    (errs c.from_residual.result _ IsWant c.from_residual.ensures.1 (λ e same. subst IsWant (sym same) c.in_err-bytes.ensures.want)) is
+pub returns-in_err-bytes-clause-goes : goal.returns-in_err-bytes-clause-goes
+returns-in_err-bytes-clause-goes g c =
+    refused_goes (area_readings c.args.area) (g.D.Disk.memory c.args.disk.now) (g.D.Disk.memory c.read_all.new.disk) c.in_err-bytes.field-0.0 c.from_residual.result c.from_residual.ensures.1 c.in_err-bytes.ensures.goes
+
+pub returns-in_err-records-clause-goes : goal.returns-in_err-records-clause-goes
+returns-in_err-records-clause-goes g c =
+    walk_goes c.args.area (walk_of c.deref.result.now) c.in_err-records.field-0.0 c.from_residual-in_err-records.result (g.D.Disk.memory c.args.disk.now) (g.D.Disk.memory c.read_all.new.disk) c.in_err-records.ensures.walks
+    c.from_residual-in_err-records.ensures.1 c.in_ok-bytes.ensures.goes
 
 pub returns-clause-content : goal.returns-clause-content
 returns-clause-content g c t tells =

@@ -31,7 +31,7 @@ use Rattle.range_map.specs.Entries.{spread_over}
 use Rattle.ring_link.specs.Silence.{quiet_after}
 use Rattle.vote_journal.specs.Grammar.{epoch_at, promise_at as vote_journal_grammar_promise_at, vote_at as vote_journal_grammar_vote_at, trim_at, change_of_kind, change_at, numbered_at, first_at}
 use Rattle.vote_state.specs.Ranges.{ranges_of, are_held}
-use Rattle.world_model.specs.Disks.{ran}
+use Rattle.disk_model.specs.Running.{ran}
 use Rattle.world_model.specs.Opening.{opening}
 use Rattle.world_model.specs.Trace.{trace}
 use Rattle.world_model.specs.Worlds.{happens, started}

@@ -4,8 +4,11 @@ use Rattle.gate_log.specs.Moments.{OldOrNew}
 use Rattle.gate_log.specs.Journal.{Holds, compact_calls}
 use Rattle.gate_log.specs.declared.fault.LogFault.TheVariants.{Full}
 use Rattle.gate_log.proofs.Moves.{records_are}
-use Rattle.gate_log.proofs.Phases.{stays_leaves}
+use Rattle.gate_area.proofs.Phases.{stays_leaves}
 use Rattle.vote_journal.proofs.Writing.{body_is, only_error}
+use Rattle.disk_model.specs.Running.{GoesBy}
+use Rattle.gate_log.proofs.Going.{wanted_goes}
+use Rattle.gate_log.specs.Operations.{compact_ops, log_ending}
 use Rattle.vote_journal.proofs.compacting.replace_records.Goals as goal
 
 pub returns-in_err-push-clause-moments : goal.returns-in_err-push-clause-moments
@@ -36,3 +39,11 @@ returns-clause-longer g c longer =
     let over = subst (λ (b : List ℕ). c.args.log.limit < 22 + length b) (sym same) longer in
     let is = (c.compact.ensures.full (22 + length c.args.bytes.now)).1 (subst (λ (b : List ℕ). (22 + length c.args.bytes.now ≡ 22 + length b) × (c.args.log.limit < 22 + length c.args.bytes.now)) (sym same) (refl, longer)) in
     (c.compact.ensures.idle over, only_error c.compact.result (Full (22 + length c.args.bytes.now)) is)
+
+pub returns-in_err-push-clause-goes : goal.returns-in_err-push-clause-goes
+returns-in_err-push-clause-goes g c = wanted_goes (compact_ops c.args.log c.args.bytes.now) (g.D.Disk.memory c.args.disk.now) (g.D.Disk.memory c.args.disk.now) c.from_residual.result c.from_residual.ensures.1
+
+pub returns-clause-goes : goal.returns-clause-goes
+returns-clause-goes g c =
+    let same = body_is c.push.new.self c.new-body.result c.args.bytes.now c.in_ok-push.ensures.ok c.new-body.ensures in
+    subst (λ (b : List ℕ). GoesBy (compact_ops c.args.log b) (g.D.Disk.memory c.args.disk.now) (g.D.Disk.memory c.compact.new.disk) (log_ending c.compact.result)) same c.compact.ensures.goes

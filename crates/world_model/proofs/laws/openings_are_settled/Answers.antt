@@ -1,4 +1,4 @@
-use Rattle.std.proofs.Common.{◌≡◌, ℕ, zero, suc, ◌+◌, ◌-◌, ◌/◌, nat_lt, Bool, true, false, if◌then◌else◌, List, [], ◌∷◌, ◌++◌, length, map, replicate, Option, None, Some, Result, Ok, Err, refl, ap, sym, subst, ◌∙◌}
+use Rattle.std.proofs.Common.{◌≡◌, ℕ, zero, suc, ◌+◌, ◌-◌, ◌/◌, nat_lt, Bool, true, false, if◌then◌else◌, List, [], ◌∷◌, ◌++◌, length, replicate, Option, None, Some, Result, Ok, Err, refl, ap, sym, subst, ◌∙◌}
 use Rattle.std.proofs.lemmas.List.{append-nil, append_assoc}
 use Rattle.mrp_types.specs.declared.id.NodeId.{NodeId}
 use Rattle.mrp_config.specs.Config.{Config}
@@ -12,18 +12,20 @@ use Rattle.disk_model.proofs.OnArea.{settled-sync}
 use Rattle.gate_area.specs.declared.pair.Pair.TheVariants.{Journal as JournalPair, Check as CheckPair}
 use Rattle.gate_area.specs.Standing.{stands}
 use Rattle.gate_log.specs.Records.{behind_gate}
-use Rattle.gate_log.specs.Journal.{Log, append_calls, appended}
+use Rattle.gate_log.specs.Journal.{Log, appended}
 use Rattle.vote_state.specs.State.{State}
 use Rattle.vote_journal.specs.declared.fault.OpenFault.{OpenFault}
 use Rattle.vote_journal.specs.Journal.{Journal, state_of, opened_state, epoch_record}
 use Rattle.protocol.specs.Lines.{Cause, Full}
-use Rattle.world_model.specs.Disks.{Op, Reads, Does, changes_in}
-use Rattle.world_model.specs.Opening.{Opening, Found, Kept, opening, finding_by, found_by, next_journal, judged_journal, opened_journal, opened_checks, area_readings, then_checks}
+use Rattle.disk_model.specs.Running.{Op, Asks, Reads, Does, changes_in}
+use Rattle.gate_area.specs.Operations.{gate_ops}
+use Rattle.world_model.specs.Opening.{Opening, Found, Kept, opening, finding_by, found_by, next_journal, judged_journal, opened_journal, opened_checks, checks_read, then_checks}
 use Rattle.world_model.proofs.laws.openings_are_settled.Goals as goal
 
 -- the changes of two lists of calls
 changes-append : (xs ys : List Op) → changes_in (xs ++ ys) ≡ changes_in xs ++ changes_in ys
 changes-append [] ys = refl
+changes-append (Asks ∷ xs) ys = changes-append xs ys
 changes-append (Reads ∷ xs) ys = changes-append xs ys
 changes-append (Does call ∷ xs) ys = ap (λ calls. call ∷ calls) (changes-append xs ys)
 
@@ -31,7 +33,7 @@ reads_none : (n : ℕ) → changes_in (replicate n Reads) ≡ []
 reads_none zero = refl
 reads_none (suc n) = reads_none n
 
-readings_none : (areas : Areas) (standing : Result (Option (Area × ℕ)) (Area × ℕ)) → changes_in (area_readings areas standing) ≡ []
+readings_none : (areas : Areas) (standing : Result (Option (Area × ℕ)) (Area × ℕ)) → changes_in (checks_read areas standing) ≡ []
 readings_none areas (Err spot) = refl
 readings_none areas (Ok None) = refl
 readings_none areas (Ok (Some (area, generation))) = reads_none (length (bytes_of area areas) / 65536 + 1)
@@ -45,7 +47,7 @@ Ends : Opening Journal → Type 0
 Ends o = (j : Journal) → o.result ≡ Ok j → EndsSynced o.work
 
 ends_with_room : (id : NodeId) (log : Log) (s : State) (r : List ℕ) (full : Bool)
-    → Ends (if full then record { work = []; result = Err Full } else record { work = map Does (append_calls log r); result = Ok (record { id = id; log = appended log r; state = s }) })
+    → Ends (record { work = if full then [] else gate_ops log.area (log.end - 1) (behind_gate r); result = if full then Err Full else Ok (record { id = id; log = appended log r; state = s }) })
 unfolding Ends EndsSynced
 ends_with_room id log s r true j is = absurd cc
 ends_with_room id log s r false j is = (Write log.area (log.end - 1 + 1) (behind_gate r) ∷ Sync ∷ Write log.area (log.end - 1) (1 ∷ []) ∷ [], refl)

@@ -1,23 +1,28 @@
-use Rattle.std.proofs.Common.{◌∙◌, ◌++◌, ◌∷◌, [], ap, sym}
+use Rattle.std.proofs.Common.{◌∙◌, ap, sym}
 use Rattle.disk_model.specs.declared.areas.Areas.{Areas}
 use Rattle.disk_model.specs.declared.call.Call.TheVariants.{Cut}
 use Rattle.disk_model.specs.Calls.{reads}
 use Rattle.disk_model.specs.Undoing.{all_undone}
 use Rattle.disk_model.proofs.Reading.{keeps_cut}
-use Rattle.disk_model.proofs.Undoing.{start_cut, one_call_more}
+use Rattle.disk_model.proofs.Undoing.{gave, start_cut, one_call_more}
 use Rattle.disk_model.proofs.sim.SimDiskDisk.cut.Goals as goal
 
 pub invariant_of-self-2 : goal.invariant_of-self-2
 invariant_of-self-2 c =
     let d = c.self.inside in
-    let start = all_undone d.undos.items d.current in
-    let noted = c.in_ok-note.ensures.undos ∙ ap (λ u. d.undos.items ++ u ∷ []) c.in_ok-undo.ensures in
-    keeps_cut start d.calls.items c.note.new.calls.items d.current c.cut.new.self c.args.area c.args.len c.self.invariant c.cut.ensures c.in_ok-note.ensures.calls
-    ∙ ap (λ (s : Areas). reads (record { start = s; calls = c.note.new.calls.items })) (sym (start_cut d.undos.items c.note.new.undos.items d.current c.cut.new.self c.args.area c.args.len c.cut.ensures noted))
+    let done = c.cut_off-done in
+    let calls = gave done.result c.is_err.result c.is_err.ensures.value c.if-is_err.false done.ensures.calls in
+    let undos = gave done.result c.is_err.result c.is_err.ensures.value c.if-is_err.false done.ensures.undos in
+    let now = gave done.result c.is_err.result c.is_err.ensures.value c.if-is_err.false done.ensures.now in
+    keeps_cut (all_undone d.undos.items d.current) d.calls.items done.new.calls.items d.current done.new.now c.args.area c.args.len c.self.invariant now calls
+    ∙ ap (λ (s : Areas). reads (record { start = s; calls = done.new.calls.items })) (sym (start_cut d.undos.items done.new.undos.items d.current done.new.now c.args.area c.args.len now undos))
 
 pub returns-clause-after : goal.returns-clause-after
 returns-clause-after c =
     let d = c.self.inside in
-    let noted = c.in_ok-note.ensures.undos ∙ ap (λ u. d.undos.items ++ u ∷ []) c.in_ok-undo.ensures in
-    one_call_more (all_undone d.undos.items d.current) _ d.calls.items c.note.new.calls.items d.trouble c.pass_change.new.self c.args.self.now (Cut c.args.area c.args.len) c.self.view_is
-    (start_cut d.undos.items c.note.new.undos.items d.current c.cut.new.self c.args.area c.args.len c.cut.ensures noted) c.in_ok-note.ensures.calls c.pass_change.ensures
+    let done = c.cut_off-done in
+    let calls = gave done.result c.is_err.result c.is_err.ensures.value c.if-is_err.false done.ensures.calls in
+    let undos = gave done.result c.is_err.result c.is_err.ensures.value c.if-is_err.false done.ensures.undos in
+    let now = gave done.result c.is_err.result c.is_err.ensures.value c.if-is_err.false done.ensures.now in
+    one_call_more (all_undone d.undos.items d.current) _ d.calls.items done.new.calls.items d.trouble c.pass_change.new.self c.args.self.now (Cut c.args.area c.args.len) c.self.view_is
+    (start_cut d.undos.items done.new.undos.items d.current done.new.now c.args.area c.args.len now undos) calls c.pass_change.ensures

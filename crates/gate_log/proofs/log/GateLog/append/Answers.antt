@@ -10,7 +10,10 @@ use Rattle.gate_log.specs.Moments.{OldOrNew}
 use Rattle.gate_log.specs.Records.{IsShort, behind_gate}
 use Rattle.gate_log.proofs.Moves.{gate-log, append_leaves, append_holds, after_all, records_are}
 use Rattle.gate_log.proofs.Opens.{tells_before}
-use Rattle.gate_log.proofs.Phases.{stays_leaves}
+use Rattle.gate_area.proofs.Phases.{stays_leaves}
+use Rattle.disk_model.specs.Running.{refused_ending, Passed}
+use Rattle.gate_log.proofs.Going.{append_idle, append_goes, refused_goes}
+use Rattle.gate_log.specs.Operations.{append_ops}
 use Rattle.gate_log.proofs.log.GateLog.append.Goals as goal
 
 pub returns-then-end-self-clause-moments : goal.returns-then-end-self-clause-moments
@@ -88,3 +91,19 @@ returns-clause-done g c u tells =
     let calls = gate_calls c.self.inside.area (c.self.inside.end - 1) c.written.result.now in
     let before = told_before (g.D.Disk.told c.args.disk.now) (g.D.Disk.told c.open_gate.new.disk) (λ t. calls) u (c.in_ok-open_gate.ensures.calls (sym c.open_gate.ensures.honest ∙ tells.honest)) tells.told in
     subst (λ (x : Told). IsSettled x) (sym before.2) (gate_settles c.self.inside.area (c.self.inside.end - 1) c.written.result.now before.0)
+
+pub returns-then-end-self-clause-goes : goal.returns-then-end-self-clause-goes
+returns-then-end-self-clause-goes g c =
+    append_idle c.args.self c.args.body.now (g.D.Disk.memory c.args.disk.now) (g.D.Disk.memory c.args.disk.now) refl
+    (omega (arith, c.if-end-self.true, c.room.ensures.room, ap (λ (l : Log). l.end) c.self.view_is, ap (λ (l : Log). l.limit) c.self.view_is))
+
+pub returns-in_err-open_gate-clause-goes : goal.returns-in_err-open_gate-clause-goes
+returns-in_err-open_gate-clause-goes g c =
+    refused_goes (λ t. append_ops c.args.self c.args.body.now) (g.D.Disk.memory c.args.disk.now) (g.D.Disk.memory c.open_gate.new.disk) c.in_err-open_gate.field-0.0 c.from_residual.result c.from_residual.ensures.1
+    (append_goes c.args.self _ c.written.result.now c.args.body.now (g.D.Disk.memory c.args.disk.now) (g.D.Disk.memory c.open_gate.new.disk) (refused_ending c.in_err-open_gate.field-0.0) c.self.view_is c.written.ensures
+    (omega (arith, c.if-end-self.false, c.room.ensures.room, ap (λ (l : Log). l.end) c.self.view_is, ap (λ (l : Log). l.limit) c.self.view_is)) c.in_err-open_gate.ensures.goes)
+
+pub returns-clause-goes : goal.returns-clause-goes
+returns-clause-goes g c =
+    append_goes c.args.self _ c.written.result.now c.args.body.now (g.D.Disk.memory c.args.disk.now) (g.D.Disk.memory c.open_gate.new.disk) Passed c.self.view_is c.written.ensures
+    (omega (arith, c.if-end-self.false, c.room.ensures.room, ap (λ (l : Log). l.end) c.self.view_is, ap (λ (l : Log). l.limit) c.self.view_is)) c.in_ok-open_gate.ensures.goes

@@ -1,13 +1,18 @@
 use Rattle.std.proofs.Common.{◌≡◌, ◌<◌, ◌+◌, ◌-◌, ◌^◌, [], ◌∷◌, List, ℕ, length, Bool, Option, Some, inl, refl, sym, ap, ◌∙◌, subst, arith}
 use Rattle.disk_model.specs.declared.area.Area.{Area}
 use Rattle.disk_model.specs.Calls.{Told, Tells, Makes, LeavesOnly, IsSettled, and_then, reads}
-use Rattle.gate_log.specs.Journal.{Log, Holds, other_of, compacted, renew_calls}
-use Rattle.gate_log.specs.Moments.{OldOrNew, RenewLeaves}
+use Rattle.gate_log.specs.Journal.{Log, Holds, compacted}
+use Rattle.gate_area.specs.Standing.{other_of}
+use Rattle.gate_area.specs.Gate.{renew_calls, RenewLeaves}
+use Rattle.gate_log.specs.Moments.{OldOrNew}
 use Rattle.gate_log.specs.Records.{IsShort, area_body}
 use Rattle.gate_log.proofs.Moves.{records_are, after_all}
 use Rattle.gate_log.proofs.Opens.{tells_before}
-use Rattle.gate_log.proofs.Phases.{leaves_as, stays_leaves}
+use Rattle.gate_area.proofs.Phases.{leaves_as, stays_leaves}
 use Rattle.gate_log.proofs.Renewals.{length-body, compact_leaves, next_holds, renewed}
+use Rattle.disk_model.specs.Running.{refused_ending, Passed}
+use Rattle.gate_log.proofs.Going.{compact_idle, compact_goes, refused_goes, wanted_goes}
+use Rattle.gate_log.specs.Operations.{compact_ops}
 use Rattle.gate_log.proofs.log.GateLog.compact.Goals as goal
 
 -- no call was made
@@ -105,3 +110,26 @@ returns-clause-stands g c u now_tells =
           (c.deref.ensures.value ∙ c.in_ok-bytes.ensures ∙ ap (λ (l : Log). area_body (l.generation + 1) (c.args.body.now ∷ [])) c.self.view_is)
           c.in_ok-renew.ensures.calls before.1 now_tells.told),
     )
+
+pub returns-then-self-end-clause-goes : goal.returns-then-self-end-clause-goes
+returns-then-self-end-clause-goes g c =
+    compact_idle c.args.self c.args.body.now (g.D.Disk.memory c.args.disk.now) (g.D.Disk.memory c.args.disk.now) refl
+    (omega (arith, c.if-self-end.true, c.room-end.ensures.room, ap (λ (l : Log). l.limit) c.self.view_is))
+
+pub returns-in_err-bytes-clause-goes : goal.returns-in_err-bytes-clause-goes
+returns-in_err-bytes-clause-goes g c = wanted_goes (compact_ops c.args.self c.args.body.now) (g.D.Disk.memory c.args.disk.now) (g.D.Disk.memory c.args.disk.now) c.from_residual.result c.from_residual.ensures.1
+
+pub returns-in_err-renew-clause-goes : goal.returns-in_err-renew-clause-goes
+returns-in_err-renew-clause-goes g c =
+    refused_goes (compact_ops c.args.self c.args.body.now) (g.D.Disk.memory c.args.disk.now) (g.D.Disk.memory c.renew.new.disk) c.in_err-renew.field-0.0 c.from_residual-in_err-renew.result c.from_residual-in_err-renew.ensures.1
+    (compact_goes c.args.self c.args.body.now c.deref.result.now c.other-area.result (g.D.Disk.memory c.args.disk.now) (g.D.Disk.memory c.renew.new.disk) (refused_ending c.in_err-renew.field-0.0)
+    (c.other-area.ensures ∙ ap (λ (l : Log). other_of l.area) c.self.view_is)
+    (c.deref.ensures.value ∙ c.in_ok-bytes.ensures ∙ ap (λ (l : Log). area_body (l.generation + 1) (c.args.body.now ∷ [])) c.self.view_is)
+    (omega (arith, c.if-self-end.false, c.room-end.ensures.room, ap (λ (l : Log). l.limit) c.self.view_is)) c.in_err-renew.ensures.goes)
+
+pub returns-clause-goes : goal.returns-clause-goes
+returns-clause-goes g c =
+    compact_goes c.args.self c.args.body.now c.deref.result.now c.other-area.result (g.D.Disk.memory c.args.disk.now) (g.D.Disk.memory c.renew.new.disk) Passed
+    (c.other-area.ensures ∙ ap (λ (l : Log). other_of l.area) c.self.view_is)
+    (c.deref.ensures.value ∙ c.in_ok-bytes.ensures ∙ ap (λ (l : Log). area_body (l.generation + 1) (c.args.body.now ∷ [])) c.self.view_is)
+    (omega (arith, c.if-self-end.false, c.room-end.ensures.room, ap (λ (l : Log). l.limit) c.self.view_is)) c.in_ok-renew.ensures.goes

@@ -2,16 +2,17 @@ use Rattle.std.proofs.Common.{◌≡◌, ◌∙◌, ap, subst, inr, ℕ, List, [
 use Rattle.disk_model.specs.declared.areas.Areas.{Areas}
 use Rattle.disk_model.specs.declared.call.Call.TheVariants.{Sync}
 use Rattle.disk_model.specs.Calls.{LeavesOnly, and_then, reads}
-use Rattle.disk_model.specs.Causes.{change_passed, read_passed}
 use Rattle.disk_model.proofs.Reading.{area_bytes-and_then, reads_synced}
 use Rattle.gate_area.specs.declared.pair.Pair.TheVariants.{Journal}
 use Rattle.gate_area.specs.Standing.{stands}
 use Rattle.gate_log.specs.Journal.{Holds, IsFound, IsLogOf, find_calls, records_in}
 use Rattle.gate_log.specs.Moments.{Finds, SameRecords, refused_as}
-use Rattle.gate_log.specs.Reading.{pieces_of, reads_passed}
 use Rattle.gate_log.proofs.Answering.{errs, finds_refused, if_ok, on_ok}
 use Rattle.gate_log.proofs.Opens.{open_makes, open_some, sync_settles, tells_before}
-use Rattle.gate_log.proofs.Phases.{synced_tells}
+use Rattle.gate_area.proofs.Phases.{synced_tells}
+use Rattle.disk_model.specs.Running.{refused_ending}
+use Rattle.gate_log.proofs.Going.{refused_goes, sync_refused, synced_goes}
+use Rattle.gate_log.specs.Operations.{log_ending, open_ops}
 use Rattle.gate_log.proofs.log.GateLog.open.Goals as goal
 
 pub returns-in_err-sync-clause-finds : goal.returns-in_err-sync-clause-finds
@@ -32,12 +33,6 @@ pub returns-clause-log : goal.returns-clause-log
 returns-clause-log g c t tells =
     let mid = synced_tells (g.D.Disk.told c.args.disk.now) (g.D.Disk.told c.sync.new.self) (g.D.Disk.honest c.args.disk.now) (g.D.Disk.honest c.sync.new.self) t c.in_ok-sync.ensures.told c.sync.ensures.honest tells in
     subst (λ (areas : Areas). IfOk c.find.result (λ opened. IsFound c.args.limit opened.1.items (stands Journal areas) opened.0)) (reads_synced t) (c.find.ensures.log (and_then t (Sync ∷ [])) mid)
-
-pub returns-clause-reads : goal.returns-clause-reads
-returns-clause-reads g c t p area generation tells plan stood =
-    let mid = synced_tells (g.D.Disk.told c.args.disk.now) (g.D.Disk.told c.sync.new.self) (g.D.Disk.honest c.args.disk.now) (g.D.Disk.honest c.sync.new.self) t c.in_ok-sync.ensures.told c.sync.ensures.honest tells in
-    subst (λ (file : List ℕ). OnOk c.find.result (g.D.Disk.plan c.find.new.disk ≡ Some (reads_passed (pieces_of file) (read_passed (read_passed (change_passed p)))))) (area_bytes-and_then area t (Sync ∷ []))
-    (c.find.ensures.reads (and_then t (Sync ∷ [])) (change_passed p) area generation mid (c.in_ok-sync.ensures.plan p plan).plan (ap (stands Journal) (reads_synced t) ∙ stood))
 
 pub returns-clause-calls : goal.returns-clause-calls
 returns-clause-calls g c =
@@ -62,3 +57,12 @@ pub returns-clause-stands : goal.returns-clause-stands
 returns-clause-stands g c u tells =
     let before = tells_before (g.D.Disk.honest c.sync.new.self) (g.D.Disk.honest c.find.new.disk) (g.D.Disk.told c.sync.new.self) (g.D.Disk.told c.find.new.disk) find_calls u c.find.ensures.some c.find.ensures.honest tells in
     if_ok c.find.result (λ o. Holds o.0 o.1.items (reads u)) (λ o. IsLogOf o.0 (reads u)) (c.find.ensures.holds before.0 u before.1 tells) (λ o here. (o.1.items, here))
+
+pub returns-in_err-sync-clause-goes : goal.returns-in_err-sync-clause-goes
+returns-in_err-sync-clause-goes g c =
+    refused_goes open_ops (g.D.Disk.memory c.args.disk.now) (g.D.Disk.memory c.sync.new.self) c.in_err-sync.field-0.0 c.from_residual.result c.from_residual.ensures.1
+    (sync_refused (g.D.Disk.memory c.args.disk.now) (g.D.Disk.memory c.sync.new.self) c.in_err-sync.field-0.0 c.in_err-sync.ensures.goes)
+
+pub returns-clause-goes : goal.returns-clause-goes
+returns-clause-goes g c =
+    synced_goes (g.D.Disk.memory c.args.disk.now) (g.D.Disk.memory c.sync.new.self) (g.D.Disk.memory c.find.new.disk) (log_ending c.find.result) c.in_ok-sync.ensures.goes c.find.ensures.goes

@@ -1,4 +1,4 @@
-use Rattle.std.proofs.Common.{arith, ◌≡◌, ◌∙◌, ◌⊎◌, ℕ, ◌+◌, ◌-◌, ◌^◌, ◌<◌, ◌==◌, Bool, true, false, if◌then◌else◌, List, ◌∷◌, [], ◌++◌, length, Option, Some, Ok, Err, Result, IsErrAnd, refl, sym, ap, subst}
+use Rattle.std.proofs.Common.{arith, ◌≡◌, ◌∙◌, ◌⊎◌, ℕ, ◌+◌, ◌-◌, ◌^◌, ◌<◌, ◌==◌, Bool, true, false, if◌then◌else◌, List, ◌∷◌, [], ◌++◌, length, Option, Some, Ok, Err, Result, IsErrAnd, refl, sym, ap, subst, inr, inl, Vec}
 use Rattle.disk_model.specs.Calls.{Told, Tells, and_then, made_by, Makes, LeavesOnly, reads}
 use Rattle.disk_model.specs.declared.area.Area.{Area}
 use Rattle.gate_area.specs.declared.pair.Pair.TheVariants.{Journal as JournalPair}
@@ -15,6 +15,11 @@ use Rattle.vote_journal.specs.declared.fault.OpenFault.TheVariants.{Memory, Epoc
 use Rattle.vote_journal.specs.Faults.{opened_as}
 use Rattle.vote_journal.specs.Journal.{OpensBy, OpenLeaves, state_of, opened_state, next_epoch, epoch_record, judged_calls}
 use Rattle.vote_journal.proofs.Openings.{with_room, within, judged_are, all_made, first_made, then_made, log_opened, no_log, refused, no_state, no_epoch, no_room, since_as, same_opens, epoch_leaves, opened_stands}
+use Rattle.disk_model.specs.Running.{Passed}
+use Rattle.gate_log.specs.Operations.{fault_ending}
+use Rattle.vote_journal.specs.Operations.{epoch_ops, state_ops, opening_ops}
+use Rattle.vote_journal.proofs.Going.{log_unopened, found_ops, found_refused, epoch_refused, epoch_goes}
+use Rattle.std.specs.declared.alloc.Global.{Global}
 use Rattle.vote_journal.proofs.journal.VoteJournal.open.Goals as goal
 
 -- the answer is the fault that was passed on
@@ -205,3 +210,77 @@ pub returns-in_err-bytes-clause-some : goal.returns-in_err-bytes-clause-some
 returns-in_err-bytes-clause-some g c =
     first_made (g.D.Disk.honest c.args.disk.now) (g.D.Disk.told c.args.disk.now) (g.D.Disk.told c.open.new.disk)
     open_calls (λ t. judged_calls c.args.id c.args.limit (stands JournalPair (reads t)) (records_in (reads t))) c.open.ensures.some
+
+abbrev failed_opening : LogFault → Result (Log × Vec (List ℕ) Global) LogFault
+failed_opening e = Err e
+
+abbrev failed_state : OpenFault → Result State OpenFault
+failed_state e = Err e
+
+abbrev failed_bytes : OpenFault → Result (List ℕ × State) OpenFault
+failed_bytes e = Err e
+
+pub returns-in_err-log-clause-goes : goal.returns-in_err-log-clause-goes
+returns-in_err-log-clause-goes g c =
+    log_unopened (λ opened. opened.1.items) c.args.id c.args.limit c.in_err-log.field-0.0 c.from_residual.result (g.D.Disk.memory c.args.disk.now) (g.D.Disk.memory c.open.new.disk)
+    (λ d is. c.in_err-log.ensures.finds d.told (g.met.D.Disk.tells c.args.disk.now d is)) (λ len is. c.in_err-log.ensures.full len (ap failed_opening is)) c.from_residual.ensures.1 c.in_err-log.ensures.goes
+
+-- why the records are refused
+no_ops : (id : NodeId) (log : Log) (records : List (List ℕ)) (fault : OpenFault) → state_of id records ≡ Err fault → state_ops id log records (state_of id records) ≡ []
+no_ops id log records fault is = ap (state_ops id log records) is
+
+-- and why their epoch is
+no_more_ops : (id : NodeId) (log : Log) (records : List (List ℕ)) (s : State) (fault : OpenFault) → state_of id records ≡ Ok s → opened_state s ≡ Err fault → state_ops id log records (state_of id records) ≡ []
+no_more_ops id log records s fault so_far is = ap (state_ops id log records) so_far ∙ ap (epoch_ops log (epoch_record id records s)) is
+
+pub returns-in_err-state-clause-goes : goal.returns-in_err-state-clause-goes
+returns-in_err-state-clause-goes g c =
+    let records = c.in_ok-log.records.items in
+    let fault = c.in_err-state.field-0.0 in
+    found_refused c.args.id c.args.limit fault c.from_residual-in_err-state.result (g.D.Disk.memory c.args.disk.now) (g.D.Disk.memory c.open.new.disk) (λ is. c.in_err-state.ensures.bytes (ap failed_state is)) c.from_residual-in_err-state.ensures.1
+    (elim (subst (λ (rs : List (List ℕ)). (fault ≡ Memory) ⊎ (state_of c.args.id rs ≡ Err fault)) c.deref.ensures.value c.in_err-state.ensures.state) [
+      | inl memory ↦ inl memory
+      | inr is ↦ inr (λ d same.
+          found_ops c.args.id c.args.limit (stands JournalPair (reads d.told)) (records_in (reads d.told)) records c.in_ok-log.log (c.in_ok-log.ensures.log d.told (g.met.D.Disk.tells c.args.disk.now d same))
+          (listed_are (λ opened. opened.1.items) (c.in_ok-log.log, c.in_ok-log.records) (records_in (reads d.told)) (c.in_ok-log.ensures.finds d.told (g.met.D.Disk.tells c.args.disk.now d same)))
+          ∙ no_ops c.args.id c.in_ok-log.log records fault is)
+    ])
+    c.in_ok-log.ensures.goes
+
+pub returns-in_err-bytes-clause-goes : goal.returns-in_err-bytes-clause-goes
+returns-in_err-bytes-clause-goes g c =
+    let records = c.in_ok-log.records.items in
+    let fault = c.in_err-bytes.field-0.0 in
+    let so_far = subst (λ (rs : List (List ℕ)). state_of c.args.id rs ≡ Ok c.in_ok-state.state) c.deref.ensures.value c.in_ok-state.ensures.state in
+    found_refused c.args.id c.args.limit fault c.from_residual-in_err-bytes.result (g.D.Disk.memory c.args.disk.now) (g.D.Disk.memory c.open.new.disk) (λ is. c.in_err-bytes.ensures.memory (ap failed_bytes is)) c.from_residual-in_err-bytes.ensures.1
+    (elim c.in_err-bytes.ensures.state [
+      | inl memory ↦ inl memory
+      | inr is ↦ inr (λ d same.
+          found_ops c.args.id c.args.limit (stands JournalPair (reads d.told)) (records_in (reads d.told)) records c.in_ok-log.log (c.in_ok-log.ensures.log d.told (g.met.D.Disk.tells c.args.disk.now d same))
+          (listed_are (λ opened. opened.1.items) (c.in_ok-log.log, c.in_ok-log.records) (records_in (reads d.told)) (c.in_ok-log.ensures.finds d.told (g.met.D.Disk.tells c.args.disk.now d same)))
+          ∙ no_more_ops c.args.id c.in_ok-log.log records c.in_ok-state.state fault so_far is)
+    ])
+    c.in_ok-log.ensures.goes
+
+pub returns-in_err-log-2-clause-goes : goal.returns-in_err-log-2-clause-goes
+returns-in_err-log-2-clause-goes g c =
+    let records = c.in_ok-log.records.items in
+    epoch_refused (opening_ops c.args.id c.args.limit) (g.D.Disk.memory c.args.disk.now) (g.D.Disk.memory c.write_record.new.disk) c.in_err-log-2.field-0.0 c.from_residual-in_err-log-2.result c.from_residual-in_err-log-2.ensures.1
+    (epoch_goes c.args.id c.args.limit records c.in_ok-state.state c.in_ok-bytes.durable c.in_ok-log.log c.bytes-2.result.now (g.D.Disk.memory c.args.disk.now) (g.D.Disk.memory c.open.new.disk) (g.D.Disk.memory c.write_record.new.disk) (fault_ending c.in_err-log-2.field-0.0)
+    (subst (λ (rs : List (List ℕ)). state_of c.args.id rs ≡ Ok c.in_ok-state.state) c.deref.ensures.value c.in_ok-state.ensures.state) c.in_ok-bytes.ensures.state
+    (c.bytes-2.ensures ∙ (c.in_ok-bytes.ensures.bytes ∙ ap (λ (rs : List (List ℕ)). epoch_record c.args.id rs c.in_ok-state.state) c.deref-2.ensures.value))
+    (λ d same.
+    found_ops c.args.id c.args.limit (stands JournalPair (reads d.told)) (records_in (reads d.told)) records c.in_ok-log.log (c.in_ok-log.ensures.log d.told (g.met.D.Disk.tells c.args.disk.now d same))
+    (listed_are (λ opened. opened.1.items) (c.in_ok-log.log, c.in_ok-log.records) (records_in (reads d.told)) (c.in_ok-log.ensures.finds d.told (g.met.D.Disk.tells c.args.disk.now d same))))
+    c.in_ok-log.ensures.goes c.in_err-log-2.ensures.goes)
+
+pub returns-clause-goes : goal.returns-clause-goes
+returns-clause-goes g c =
+    let records = c.in_ok-log.records.items in
+    epoch_goes c.args.id c.args.limit records c.in_ok-state.state c.in_ok-bytes.durable c.in_ok-log.log c.bytes-2.result.now (g.D.Disk.memory c.args.disk.now) (g.D.Disk.memory c.open.new.disk) (g.D.Disk.memory c.write_record.new.disk) Passed
+    (subst (λ (rs : List (List ℕ)). state_of c.args.id rs ≡ Ok c.in_ok-state.state) c.deref.ensures.value c.in_ok-state.ensures.state) c.in_ok-bytes.ensures.state
+    (c.bytes-2.ensures ∙ (c.in_ok-bytes.ensures.bytes ∙ ap (λ (rs : List (List ℕ)). epoch_record c.args.id rs c.in_ok-state.state) c.deref-2.ensures.value))
+    (λ d same.
+    found_ops c.args.id c.args.limit (stands JournalPair (reads d.told)) (records_in (reads d.told)) records c.in_ok-log.log (c.in_ok-log.ensures.log d.told (g.met.D.Disk.tells c.args.disk.now d same))
+    (listed_are (λ opened. opened.1.items) (c.in_ok-log.log, c.in_ok-log.records) (records_in (reads d.told)) (c.in_ok-log.ensures.finds d.told (g.met.D.Disk.tells c.args.disk.now d same))))
+    c.in_ok-log.ensures.goes c.in_ok-log-2.ensures.goes

@@ -1,10 +1,12 @@
 use Rattle.std.proofs.Common.{refl, ap, ◌∙◌}
 use Rattle.disk_model.specs.Calls.{and_then, reads, made_by}
-use Rattle.gate_area.specs.Gate.{retire_calls, gate_calls, RetireLeaves, FoundLeaves}
-use Rattle.gate_log.specs.Moments.{RenewLeaves}
-use Rattle.gate_log.proofs.Phases.{leaves_as, leaves_on, first_some, then_some}
-use Rattle.gate_log.proofs.Renewals.{retire_renews, found_renews}
-use Rattle.gate_log.proofs.renewing.renew.Goals as goal
+use Rattle.disk_model.specs.Running.{ending}
+use Rattle.disk_model.proofs.Running.{both_go, first_stopped, refused_on}
+use Rattle.gate_area.specs.Operations.{retire_ops, gate_ops, renew_ops}
+use Rattle.gate_area.specs.Gate.{retire_calls, gate_calls, RetireLeaves, FoundLeaves, RenewLeaves}
+use Rattle.gate_area.proofs.Phases.{leaves_as, leaves_on, first_some, then_some}
+use Rattle.gate_area.proofs.Renewals.{retire_renews, found_renews}
+use Rattle.gate_area.proofs.renewing.renew.Goals as goal
 
 pub returns-in_err-retire-clause-some : goal.returns-in_err-retire-clause-some
 returns-in_err-retire-clause-some g c =
@@ -34,3 +36,12 @@ returns-clause-moments g c t tells =
     (c.found.ensures.moments u (record { honest = c.retire.ensures.honest ∙ tells.honest; told = is }))
     (λ image. retire_renews area body (reads t) after image)
     (λ image. found_renews t area body whole image c.requires.body (c.requires.settled t tells))
+
+pub returns-in_err-retire-clause-goes : goal.returns-in_err-retire-clause-goes
+returns-in_err-retire-clause-goes g c =
+    refused_on (λ t. renew_ops c.args.area c.args.body.now t) (g.D.Disk.memory c.args.disk.now) (g.D.Disk.memory c.retire.new.disk) c.in_err-retire.field-0.0 c.from_residual.result c.from_residual.ensures.1
+    (first_stopped (retire_ops c.args.area) (λ t. gate_ops c.args.area 0 c.args.body.now) (g.D.Disk.memory c.args.disk.now) (g.D.Disk.memory c.retire.new.disk) c.in_err-retire.field-0.0 c.in_err-retire.ensures.goes)
+
+pub returns-clause-goes : goal.returns-clause-goes
+returns-clause-goes g c =
+    both_go (retire_ops c.args.area) (gate_ops c.args.area 0 c.args.body.now) (g.D.Disk.memory c.args.disk.now) (g.D.Disk.memory c.retire.new.disk) (g.D.Disk.memory c.found.new.disk) (ending c.found.result) c.in_ok-retire.ensures.goes c.found.ensures.goes

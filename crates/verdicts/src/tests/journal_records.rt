@@ -1,11 +1,9 @@
 //! Worked rows and faults by hand.
-use super::*;
 use command_codec::CodecFault;
 use mrp_types::{NodeId, RingId, Value, Voted};
 use std::test::*;
+use vote_journal::{do_epochs_rise, read_changes, read_first, write_changes, write_first};
 use vote_state::{Change, Changes};
-
-mod journals;
 
 #[test]
 fn the_first_record_of_a_journal(rt: HostRuntime) -> Result<(), Fail> {

@@ -9,9 +9,11 @@ use Rattle.disk_model.specs.declared.areas.Areas.{Areas}
 use Rattle.disk_model.specs.declared.call.Call.{Call}
 use Rattle.disk_model.specs.declared.call.Call.TheVariants.{Sync}
 use Rattle.disk_model.specs.Areas.{bytes_of}
-use Rattle.disk_model.specs.Calls.{Told, Tells, and_then, followed, made_by, Makes, MakesFirst, LeavesOnly, IsImage, IsSettled, reads}
+use Rattle.disk_model.specs.Calls.{Told, Tells, and_then, followed, made_by, Makes, MakesFirst, LeavesOnly, IsImage, IsSettled, reads, kept}
 use Rattle.disk_model.proofs.OnArea.{settled-image}
-use Rattle.disk_model.proofs.Reading.{reads-bytes, same_areas}
+use Rattle.disk_model.proofs.CrashLaws.{new_can}
+use Rattle.disk_model.proofs.Reading.{reads-bytes, reading-kept, same_areas}
+use Rattle.disk_model.specs.Steps.{CanLeave}
 
 -- the same under another name
 pub leaves_as : (t : Told) (now : Option Told) (P Q : Areas → Type 0) → LeavesOnly t now P → ((image : Areas) → P image → Q image) → LeavesOnly t now Q
@@ -78,7 +80,7 @@ then_some honest old mid now xs ys n size first (j, made) =
     cut : (t : Told) → take (n + j) (xs t ++ ys) ≡ xs t ++ take j ys
     cut t = ap (λ k. take (k + j) (xs t ++ ys)) (sym (size t)) ∙ take-append-add (xs t) ys j
 
-and_none : (t : Told) → and_then t [] ≡ t
+pub and_none : (t : Told) → and_then t [] ≡ t
 and_none t = ap (λ cs. (let u : Told = record { start = t.start; calls = cs } in u)) (append-nil t.calls)
 
 take_none : (i : ℕ) → take i (let none : List Call = [] in none) ≡ []
@@ -136,3 +138,9 @@ makes_synced honest honest' o p now xs sync same makes h = makes (same ∙ h) �
 pub makes_first_synced : (honest honest' : Bool) (o p now : Option Told) (xs : Told → List Call) → p ≡ followed o (Sync ∷ []) → honest' ≡ honest → MakesFirst honest' p now xs
     → MakesFirst honest o now (λ t. Sync ∷ xs (and_then t (Sync ∷ [])))
 makes_first_synced honest honest' o p now xs sync same (j, makes) = (suc j, λ h. makes (same ∙ h) ∙ synced_made o p (λ t. take j (xs t)) sync)
+
+-- what reads give is one of the images
+pub reads_image : (u : Told) → IsImage u (reads u)
+reads_image u area =
+    let P : List ℕ → Type 0 = λ b. CanLeave (kept area u) b in
+    subst P (reading-kept area u ∙ sym (reads-bytes u area)) (new_can (kept area u))

@@ -1,25 +1,24 @@
 //! All bytes of an area.
-ghost use Rattle.std.specs.Prelude.{◌≡◌, length, IfOk, OnOk, MatchResult, Some};
+ghost use Rattle.std.specs.Prelude.{◌≡◌, ◌≤◌, length, IfOk};
 ghost use Rattle.disk_model.specs.Calls.{Told, Tells, area_bytes};
-ghost use Rattle.disk_model.specs.declared.plan.Plan.{Plan};
-ghost use Rattle.gate_log.specs.Moments.{IsWant, LogCauses};
-ghost use Rattle.gate_log.specs.Reading.{pieces_of, reads_passed};
+ghost use Rattle.disk_model.specs.Causes.{Causes};
+ghost use Rattle.disk_model.specs.Running.{GoesBy, ending};
+ghost use Rattle.gate_area.specs.Operations.{area_readings};
 
-use crate::LogFault;
-use disk_model::{Area, Disk};
+use disk_model::{Area, Disk, Refused};
 use std::alloc::{AllocError, Global};
 
 // How many bytes one read asks for.
 const PAGE: usize = 65_536;
 
-/// Reads an area from its start in pieces of 65,536 bytes, until one gives fewer.
-pub fn read_all<D: Disk>(alloc: Global, disk: &mut D, area: Area) -> Result<Vec<u8>, LogFault>
+/// Reads an area from its start in pieces of 65,536 bytes, until one gives fewer. Memory for the bytes is taken on the way.
+pub fn read_all<D: Disk>(alloc: Global, disk: &mut D, area: Area) -> Result<Vec<u8>, Refused>
     ensures bytes { (t : Told) → Tells (D.told disk.old) (D.honest disk.old) t → IfOk result (λ bytes. bytes.items ≡ area_bytes area t) }
-    ensures want { MatchResult result (λ _. Unit {0}) IsWant }
-    ensures reads { (t : Told) (p : Plan) → Tells (D.told disk.old) (D.honest disk.old) t → D.plan disk.old ≡ Some p → OnOk result (D.plan disk.new ≡ Some (reads_passed (pieces_of (area_bytes area t)) p)) }
     ensures told { D.told disk.new ≡ D.told disk.old }
     ensures honest { D.honest disk.new ≡ D.honest disk.old }
-    ensures causes { LogCauses (D.faults disk.old) (D.faults disk.new) result }
+    ensures goes { GoesBy (area_readings area) (D.memory disk.old) (D.memory disk.new) (ending result) }
+    ensures causes { Causes (D.faults disk.old) (D.faults disk.new) result }
+    ensures wants { D.wants disk.old ≤ D.wants disk.new }
 {
     let mut page = new_page(alloc, PAGE)?;
     let mut bytes = Vec::new(alloc);

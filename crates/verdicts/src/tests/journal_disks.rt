@@ -4,11 +4,11 @@ ghost use Rattle.std.specs.List.{AllByRecursion};
 ghost use Rattle.vote_state.specs.Valid.{IsChange};
 ghost use Rattle.vote_journal.specs.Epochs.{epochs_rise};
 
-use crate::{JournalFault, OpenFault, VoteJournal};
 use disk_model::{Area, Disk, Image, SimDisk};
 use mrp_types::{Memory, NodeId, RingId, Value, Voted};
 use std::alloc::Global;
 use std::test::*;
+use vote_journal::{JournalFault, OpenFault, VoteJournal};
 use vote_state::{Change, Changes, Durable};
 
 // A limit that no row here meets.

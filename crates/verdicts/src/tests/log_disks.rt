@@ -1,5 +1,7 @@
-use super::*;
+//! Logs on disks in memory.
+
 use disk_model::{Area, Disk, Image, Refused, SimDisk};
+use gate_log::{Body, GateLog, LogFault};
 use mrp_types::Octets;
 use std::alloc::Global;
 use std::test::Fail;
@@ -199,13 +201,6 @@ fn damage_of(alloc: Global, tail: &[u8]) -> Result<Option<LogFault>, Fail> {
     Ok(refusal(alloc, &mut disk))
 }
 
-// What a log is refused with where so many reads pass.
-fn refused_read(alloc: Global, k: u32) -> Result<Option<LogFault>, Fail> {
-    let mut disk = opened(alloc, SimDisk::empty(alloc))?;
-    disk.fail_read(k);
-    Ok(refusal(alloc, &mut disk))
-}
-
 #[test]
 fn a_fresh_log(rt: HostRuntime) -> Result<(), Fail> {
     let disk = opened(rt.alloc(), SimDisk::empty(rt.alloc()))?;
@@ -342,19 +337,6 @@ fn a_body_in_pieces(rt: HostRuntime) -> Result<(), Fail> {
     Ok(())
 }
 
-#[test]
-fn reads_that_fail(rt: HostRuntime) -> Result<(), Fail> {
-    for (k, fault) in [
-        (0, Some(LogFault::Disk)),
-        (1, Some(LogFault::Disk)),
-        (2, Some(LogFault::Disk)),
-        (3, None),
-    ] {
-        assert_eq!(rt; refused_read(rt.alloc(), k)?, fault, "{k}");
-    }
-    Ok(())
-}
-
 // A disk in memory that notes the first five reads: of which area, from where, and of how many bytes.
 #[derive(Drop)]
 struct Noting {
@@ -368,9 +350,13 @@ impl Disk for Noting {
 
     ghost honest = { λ d. ⟦<SimDisk as Disk>⟧.honest d.disk };
 
-    ghost plan = { λ d. ⟦<SimDisk as Disk>⟧.plan d.disk };
+    ghost memory = { λ d. ⟦<SimDisk as Disk>⟧.memory d.disk };
 
     ghost faults = { λ d. ⟦<SimDisk as Disk>⟧.faults d.disk };
+
+    ghost wants = { λ d. ⟦<SimDisk as Disk>⟧.wants d.disk };
+
+    ghost tells = { λ d. ⟦<SimDisk as Disk>⟧.tells d.disk };
 
     fn len(&mut self, area: Area) -> Result<u64, Refused> {
         self.disk.len(area)
@@ -446,10 +432,5 @@ fn the_reads_of_a_beginning(rt: HostRuntime) -> Result<(), Fail> {
     let none = (9, 9, 9);
     let want = [(0, 0, 17), (1, 0, 17), none, none, none];
     assert_eq!(rt; reads, (want, 2));
-    for (k, fault) in [(1, Some(LogFault::Disk)), (2, None)] {
-        let mut disk = SimDisk::empty(rt.alloc());
-        disk.fail_read(k);
-        assert_eq!(rt; refusal(rt.alloc(), &mut disk), fault, "{k}");
-    }
     Ok(())
 }
