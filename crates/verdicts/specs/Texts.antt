@@ -7,8 +7,8 @@ use Rattle.command_codec.specs.declared.fault.CodecFault.{CodecFault}
 use Rattle.command_codec.specs.declared.fault.CodecFault.TheVariants as fields
 use Rattle.frames.specs.declared.fault.FrameFault.{FrameFault}
 use Rattle.frames.specs.declared.fault.FrameFault.TheVariants as frame
-use Rattle.mrp_config.specs.declared.fault.ConfigFault.{ConfigFault}
-use Rattle.mrp_config.specs.Faults.{fault_number, fault_name, fault_id}
+use Rattle.config_walk.specs.declared.fault.ConfigFault.{ConfigFault}
+use Rattle.config_walk.specs.Faults.{fault_number, fault_name, fault_id}
 use Rattle.schedule.specs.declared.fault.ScheduleFault.{ScheduleFault}
 use Rattle.schedule.specs.declared.fault.FaultKind.{FaultKind}
 use Rattle.schedule.specs.declared.fault.FaultKind.TheVariants as events

@@ -3,7 +3,7 @@
 ghost use Rattle.std.specs.Prelude.{◌≡◌, IfOk};
 ghost use Rattle.command_codec.specs.declared.fault.CodecFault.TheVariants.{Memory as NoCodecMemory};
 ghost use Rattle.frames.specs.declared.fault.FrameFault.TheVariants.{Memory as NoFrameMemory};
-ghost use Rattle.mrp_config.specs.declared.fault.ConfigFault.TheVariants.{Memory as NoConfigMemory};
+ghost use Rattle.config_walk.specs.declared.fault.ConfigFault.TheVariants.{Memory as NoConfigMemory};
 ghost use Rattle.schedule.specs.declared.fault.FaultKind.TheVariants.{Memory as NoScheduleMemory};
 ghost use Rattle.transcript.specs.declared.fault.LineKind.TheVariants.{Memory as NoLineMemory};
 ghost use Rattle.vote_journal.specs.declared.fault.OpenFault.TheVariants.{Memory as NoOpenMemory};
