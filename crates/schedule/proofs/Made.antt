@@ -1,18 +1,17 @@
 -- Each event of a generated schedule may be, and its line is short.
-use Rattle.std.proofs.Common.{arith, lit<, lit≤, ◌≡◌, ◌<◌, ◌≤◌, ℕ, zero, suc, ◌+◌, ◌-◌, ◌*◌, ◌/◌, ◌%◌, ◌^◌, ◌==◌, nat_lt, Bool, true, false, List, [], ◌∷◌, ◌++◌, length, map, take, refl, sym, ap, ◌∙◌, subst, Option, Some, None, codes, length-append, length-take}
+use Rattle.std.proofs.Common.{arith, lit<, lit≤, ◌≡◌, ◌<◌, ◌≤◌, ℕ, zero, suc, ◌+◌, ◌-◌, ◌*◌, ◌/◌, ◌%◌, ◌^◌, ◌==◌, nat_lt, Bool, true, false, List, [], ◌∷◌, ◌++◌, length, map, take, refl, sym, ap, ◌∙◌, Option, Some, None, codes, length-append, length-take}
 use Rattle.std.specs.Prelude.{IfSome, IsTrue, is_ok, slice_get, slice_index, if◌then◌else◌}
 use Rattle.std.specs.List.{filter, flat_map, range_with_len, AllByRecursion}
 use Rattle.std.specs.Fmt.{decimal}
 use Rattle.std.specs.Int.{byte_at, bytes_high_first}
 use Rattle.std.proofs.lemmas.Fmt.{length-decimal-le}
-use Rattle.hex.specs.Hex.{IsBytes, encode_lower, lower_digits}
+use Rattle.hex.specs.Hex.{encode_lower, lower_digits}
 use Rattle.hex.proofs.HexLemmas.{length-encode_with}
 use Rattle.text_lines.specs.Text.{set_off, line_text, hex_text}
 use Rattle.mrp_types.specs.declared.id.ClientId.{ClientId}
 use Rattle.mrp_types.specs.declared.id.NodeId.{NodeId}
 use Rattle.mrp_types.specs.declared.id.LogId.{LogId}
 use Rattle.command_codec.specs.Fields.{u16_bytes, u32_bytes}
-use Rattle.command_codec.specs.declared.command.Command.{Command}
 use Rattle.command_codec.specs.declared.command.Command.TheVariants.{Append, Insert}
 use Rattle.command_codec.proofs.ReaderLaws.{wide16, wide32}
 use Rattle.disk_model.specs.declared.area.Image.{Image}
@@ -29,7 +28,7 @@ use Rattle.mrp_config.proofs.Keys.{each_key_has_one}
 use Rattle.schedule.specs.declared.event.ScheduleEvent.{ScheduleEvent}
 use Rattle.schedule.specs.declared.event.ScheduleEvent.TheVariants.{Ask, Flow, Lose, Deliver, TickAll, Crash, Restart, Fuse}
 use Rattle.schedule.specs.Fields.{is_client, is_node, is_held}
-use Rattle.schedule.specs.Spelling.{event_words, event_text, schedule_text, has_route, IsClient, IsNode, AreBytes, IsWithin, IsEvent, IsSchedule}
+use Rattle.schedule.specs.Spelling.{event_text, schedule_text, has_route, IsClient, IsNode, AreBytes, IsWithin, IsEvent, IsSchedule}
 use Rattle.schedule.specs.declared.names.Names.{Names}
 use Rattle.schedule.specs.Generating.{named_below, client_named, node_named, log_named, names_of, xth, event_of, asked_by, stop_of, image_of, event_by, events_by, opening, drawn_words, generated}
 

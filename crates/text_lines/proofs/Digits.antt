@@ -1,5 +1,5 @@
 -- Hexadecimal digits, piece by piece.
-use Rattle.std.proofs.Common.{arith, ◌≡◌, ℕ, ◌∷◌, List, [], ◌++◌, ◌==◌, Bool, true, length, refl, sym, ap, ◌∙◌, append_assoc, append-nil}
+use Rattle.std.proofs.Common.{arith, ◌≡◌, ℕ, ◌∷◌, List, [], ◌++◌, ◌==◌, true, length, refl, sym, ap, ◌∙◌, append_assoc, append-nil}
 use Rattle.std.specs.Prelude.{◌/◌, ◌%◌, slice_index}
 use Rattle.hex.specs.Hex.{encode_with, encode_lower, lower_digits}
 

@@ -1,6 +1,6 @@
 use Rattle.std.proofs.Common.{sym, ◌∙◌}
 use Rattle.schedule.specs.Fields.{is_held}
-use Rattle.schedule.specs.Generating.{named_below, log_named}
+use Rattle.schedule.specs.Generating.{log_named}
 use Rattle.schedule.proofs.Drawing.{named_none, named_one, named_other}
 use Rattle.schedule.proofs.names.logs_of.Goals as goal
 use Rattle.schedule.proofs.names.logs_of.Goals.{then-has_holder+in_ok-push, else-has_holder}
