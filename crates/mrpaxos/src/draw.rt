@@ -114,14 +114,13 @@ fn write_events<O: Sink>(
 {
     let mut text = new_piece(alloc)?;
     for event in events {
-        write_event(alloc, event, &mut text, out)?;
+        write_event(event, &mut text, out)?;
     }
     write_all(out, text.bytes())
 }
 
 // Adds the line of an event to the text, of which a front is written.
 fn write_event<O: Sink>(
-    alloc: Global,
     event: &ScheduleEvent,
     text: &mut Octets,
     out: &mut O,
@@ -132,5 +131,5 @@ fn write_event<O: Sink>(
     if put_event(text, event).is_err() {
         return Err(Refused::Memory);
     }
-    write_piece(alloc, out, text)
+    write_piece(out, text)
 }

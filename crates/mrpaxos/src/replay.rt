@@ -73,7 +73,7 @@ pub fn replay<O: Sink>(
     let mut world = World::start(alloc, ring)?;
     let mut text = new_piece(alloc)?;
     for event in schedule.items() {
-        replay_event(alloc, &mut world, event, &mut text, out)?;
+        replay_event(&mut world, event, &mut text, out)?;
     }
     let events = schedule.items().len() as u64;
     put_line(&mut text, &Line::End { events })?;
@@ -83,7 +83,6 @@ pub fn replay<O: Sink>(
 
 // One event happens, and its lines are added to the text; of the text a front is written.
 fn replay_event<O: Sink>(
-    alloc: Global,
     world: &mut World,
     event: &ScheduleEvent,
     text: &mut Octets,
@@ -95,22 +94,17 @@ fn replay_event<O: Sink>(
     ensures fault { CountsSink result (O.faults out.old) (O.faults out.new) }
 {
     let lines = world.event(event)?;
-    write_lines(alloc, lines.items(), text, out)
+    write_lines(lines.items(), text, out)
 }
 
 // Adds some lines to the text, of which a front is written.
-fn write_lines<O: Sink>(
-    alloc: Global,
-    lines: &[Line],
-    text: &mut Octets,
-    out: &mut O,
-) -> Result<(), ReplayFault>
+fn write_lines<O: Sink>(lines: &[Line], text: &mut Octets, out: &mut O) -> Result<(), ReplayFault>
     ensures written { HandsOn (O.taken out.old) (O.taken out.new) (text.old ++ lines_text lines.now) text.new result }
     ensures fault { CountsSink result (O.faults out.old) (O.faults out.new) }
 {
     for line in lines {
         put_line(text, line)?;
-        write_piece(alloc, out, text)?;
+        write_piece(out, text)?;
     }
     Ok(())
 }

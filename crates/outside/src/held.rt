@@ -22,7 +22,7 @@ pub fn new_piece(alloc: Global) -> Result<Octets, AllocError>
 }
 
 /// Writes the text that is held, where it has 64 KiB or more; then none is held.
-pub fn write_piece<O: Sink>(alloc: Global, sink: &mut O, held: &mut Octets) -> Result<(), Refused>
+pub fn write_piece<O: Sink>(sink: &mut O, held: &mut Octets) -> Result<(), Refused>
     ensures bytes { HandsOn (O.taken sink.old) (O.taken sink.new) held.old held.new result }
     ensures few { OnOk result (length held.new < 65536) }
     ensures waits { length held.old < 65536 → (result ≡ Ok tt) × (held.new ≡ held.old) }
@@ -32,6 +32,6 @@ pub fn write_piece<O: Sink>(alloc: Global, sink: &mut O, held: &mut Octets) -> R
         return Ok(());
     }
     write_all(sink, held.bytes())?;
-    *held = new_piece(alloc)?;
+    held.clear();
     Ok(())
 }

@@ -93,13 +93,13 @@ fn text_is_written_in_pieces(rt: HostRuntime) -> Result<(), Fail> {
     let bytes = vec![in alloc; 7; 65_537]?;
     let mut text = new_piece(alloc)?;
     text.extend(&bytes[..65_535])?;
-    write_piece(alloc, &mut sink, &mut text)?;
+    write_piece(&mut sink, &mut text)?;
     assert_eq!(rt; (sink.bytes().len(), text.len()), (0, 65_535));
     text.push(8)?;
-    write_piece(alloc, &mut sink, &mut text)?;
+    write_piece(&mut sink, &mut text)?;
     assert_eq!(rt; (sink.bytes().len(), text.len()), (65_536, 0));
     text.extend(&bytes)?;
-    let failed = write_piece(alloc, &mut sink, &mut text);
+    let failed = write_piece(&mut sink, &mut text);
     assert_eq!(rt; failed, Err(Refused::Failed));
     assert_eq!(rt; sink.bytes().len(), 65_536);
     Ok(())
