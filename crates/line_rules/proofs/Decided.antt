@@ -23,7 +23,7 @@ use Rattle.mrp_config.specs.Walk.{node_ids, ring_ids}
 use Rattle.mrp_config.proofs.Rounds.{round_in_range}
 use Rattle.plain_model.specs.Tuples.{round_sizes, next_place, tuple_at, has_rings, is_tuple_of, is_at_or_after, instances, IsOneOf}
 use Rattle.plain_model.specs.Fold.{place_with, state_below, answer_of}
-use Rattle.plain_model.specs.Faithful.{IsWide}
+use Rattle.plain_model.specs.Lines.{IsWide}
 use Rattle.plain_model.proofs.TupleOrder.{split_and, both_true, same_number, next_is_one}
 use Rattle.tuple_laws.proofs.NextPlaces.{at-next, next-at}
 use Rattle.transcript.specs.declared.line.ShownState.{ShownState}

@@ -25,7 +25,7 @@ use Rattle.mrp_config.specs.declared.tables.ClientTable.{ClientTable}
 use Rattle.mrp_config.specs.declared.tables.PartitionTable.{PartitionTable}
 use Rattle.plain_model.specs.Tuples.{round_sizes, next_place, is_tuple_of, is_at_or_after, instances, IsBelow, IsNotBelow}
 use Rattle.plain_model.specs.Fold.{state_below, answer_of}
-use Rattle.plain_model.specs.Faithful.{IsWide}
+use Rattle.plain_model.specs.Lines.{IsWide}
 use Rattle.transcript.specs.declared.line.ShownState.{ShownState}
 use Rattle.transcript.specs.declared.line.Line.{Line}
 use Rattle.transcript.specs.declared.line.Line.TheVariants.{Learn, Deliver, Reply, Answer, Busy, Begin, Chose, Restore, Saved, Trim, Refuse, BallotLimit, InstanceLimit, AttemptLimit, Down, Up, State, Frame}

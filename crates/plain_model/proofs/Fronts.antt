@@ -1,28 +1,11 @@
--- Fronts of faithful lines, and what stays as lines come.
-use Rattle.std.proofs.Common.{arith, ◌≡◌, ℕ, List, [], ◌∷◌, ◌++◌, Option, Some, refl, sym, ap, ◌∙◌, subst, append_assoc, append-nil, Bool, true, false, if◌then◌else◌}
-use Rattle.mrp_types.specs.declared.id.NodeId.{NodeId}
+-- What the book has stays as lines come.
+use Rattle.std.proofs.Common.{arith, ◌≡◌, ℕ, List, [], ◌∷◌, ◌++◌, Option, Some, refl, ap, ◌∙◌, Bool, true, false, if◌then◌else◌}
 use Rattle.mrp_types.specs.declared.id.RingId.{RingId}
-use Rattle.mrp_types.specs.declared.place.Place.{Place}
 use Rattle.mrp_types.specs.declared.value.Value.{Value}
 use Rattle.mrp_types.specs.Book.{Learning, book_of, covers}
 use Rattle.transcript.specs.declared.line.Line.{Line}
 use Rattle.transcript.specs.declared.line.Line.TheVariants.{Learn}
-use Rattle.plain_model.specs.Lines.{learnings, book, position_from, position_after}
-use Rattle.plain_model.specs.Faithful.{Order, IsFaithfulAfter}
-
-pub IsFaithfulAfter-front : (o : Order) (before front rest : List Line) → IsFaithfulAfter o before (front ++ rest) → IsFaithfulAfter o before front
-IsFaithfulAfter-front o before [] rest all = tt
-IsFaithfulAfter-front o before (line ∷ front) rest all = (all.0, IsFaithfulAfter-front o (before ++ line ∷ []) front rest all.1)
-
--- two stretches of faithful lines, the second after the first
-pub IsFaithfulAfter-append : (o : Order) (before front rest : List Line) → IsFaithfulAfter o before front →
-    IsFaithfulAfter o (before ++ front) rest → IsFaithfulAfter o before (front ++ rest)
-IsFaithfulAfter-append o before [] rest first second = subst (λ (l : List Line). IsFaithfulAfter o l rest) (append-nil before) second
-IsFaithfulAfter-append o before (line ∷ front) rest first second = (
-  first.0,
-  IsFaithfulAfter-append o (before ++ line ∷ []) front rest first.1
-      (subst (λ (l : List Line). IsFaithfulAfter o l rest) (sym (append_assoc before (line ∷ []) front)) second),
-)
+use Rattle.plain_model.specs.Lines.{learnings, book}
 
 pub learnings-append : (xs ys : List Line) → learnings (xs ++ ys) ≡ learnings xs ++ learnings ys
 learnings-append [] ys = refl
@@ -44,8 +27,3 @@ book_of-more (x ∷ xs) ys ring inst known h =
 pub book-more : (before more : List Line) (ring : RingId) (inst : ℕ) (value : Value) → book before ring inst ≡ Some value → book (before ++ more) ring inst ≡ Some value
 book-more before more ring inst value h =
     ap (λ (l : List Learning). book_of l ring inst) (learnings-append before more) ∙ book_of-more (learnings before) (learnings more) ring inst value h
-
-pub position_from-append : (number : Place → ℕ) (node : NodeId) (now : ℕ) (xs ys : List Line) →
-    position_from number node now (xs ++ ys) ≡ position_from number node (position_from number node now xs) ys
-position_from-append number node now [] ys = refl
-position_from-append number node now (x ∷ xs) ys = position_from-append number node (position_after number node now x) xs ys

@@ -1,5 +1,4 @@
 pub mod Lines
-pub mod Faithful
 pub mod Tuples
 pub mod Pages
 pub mod Replicas

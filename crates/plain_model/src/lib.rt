@@ -1,7 +1,6 @@
 //! What lines of a system have to say, whatever made them: definitions and laws that know no ballot and no frame.
 //!
-//! `specs/Faithful.antt` has the rules of lines by their printed names, `specs/Lines.antt` what they read of the
-//! lines before. `specs/Fold.antt` says what a partition's entries mean, over plain lists: which count, what the logs
+//! `specs/Lines.antt` has the book of lines. `specs/Fold.antt` says what a partition's entries mean, over plain lists: which count, what the logs
 //! and the table hold, what is replied, the state, and a client's answer. `specs/Replicas.antt` has the same as a
 //! replica keeps it, entry by entry, `specs/StateBytes.antt` its written form, `specs/Pages.antt` what a page is, and
 //! `specs/Tuples.antt` how far a partition has come. `rows` has worked examples.
@@ -18,7 +17,6 @@ ghost use Rattle.mrp_types.specs.declared.value.Value.{Value};
 ghost use Rattle.mrp_types.specs.declared.id.RingId.{RingId};
 ghost use Rattle.transcript.specs.declared.line.Line.{Line};
 ghost use Rattle.plain_model.specs.Lines.{book};
-ghost use Rattle.plain_model.specs.Faithful.{Order, IsFaithful};
 
 pub use fold_laws::{
     replicas_keep_what_the_lists_say, replicas_reply_what_the_lists_say,
@@ -35,11 +33,6 @@ pub use size_laws::{pages_are_longest_fronts, pages_are_short, sizes_are_written
 pub use tuple_laws::{
     tuples_of_places_are_valid, what_comes_before_is_below, what_is_below_comes_before,
 };
-
-/// Every front of a faithful list of lines is faithful.
-pub fn fronts_are_faithful()
-    ensures { (o : Order) (front rest : List Line) → IsFaithful o (front ++ rest) → IsFaithful o front }
-{}
 
 /// The book only grows: what it has of an instance stays, whatever lines come.
 pub fn the_book_only_grows()

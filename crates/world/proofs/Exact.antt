@@ -7,9 +7,10 @@ use Rattle.mrp_types.specs.declared.value.Value.TheVariants.{Batch}
 use Rattle.transcript.specs.declared.line.Line.{Line}
 use Rattle.transcript.specs.declared.line.ShownFrame.{ShownFrame}
 use Rattle.transcript.specs.declared.line.Line.TheVariants.{Learn, Deliver, Frame}
-use Rattle.plain_model.specs.Lines.{book, position_after, deliveries, counted}
-use Rattle.plain_model.specs.Faithful.{F1, F2, IsFaithfulLine, IsFaithfulAfter, position}
-use Rattle.plain_model.proofs.Fronts.{position_from-append}
+use Rattle.plain_model.specs.Lines.{book}
+use Rattle.world.specs.Lines.{position_after, deliveries, counted}
+use Rattle.world.specs.Rules.{F1, F2, IsFaithfulLine, IsFaithfulAfter, position}
+use Rattle.world.proofs.Stretches.{position_from-append}
 use Rattle.mrp_config.specs.declared.tables.RingTable.{RingTable}
 use Rattle.world.specs.Order.{is_of, order_of}
 

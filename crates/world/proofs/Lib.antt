@@ -1,3 +1,4 @@
+pub mod Stretches
 pub mod Rings
 pub mod Seats
 pub mod Frames

@@ -10,8 +10,9 @@ use Rattle.mrp_types.specs.declared.value.Value.TheVariants.{Batch}
 use Rattle.transcript.specs.declared.line.Line.{Line}
 use Rattle.transcript.specs.declared.line.Line.TheVariants.{Learn, Deliver}
 use Rattle.plain_model.specs.Lines.{book}
-use Rattle.plain_model.specs.Faithful.{F1, IsWide, position}
-use Rattle.plain_model.proofs.Fronts.{position_from-append}
+use Rattle.plain_model.specs.Lines.{IsWide}
+use Rattle.world.specs.Rules.{F1, position}
+use Rattle.world.proofs.Stretches.{position_from-append}
 use Rattle.mrp_config.specs.declared.tables.RingTable.{RingTable}
 use Rattle.world.specs.Order.{is_of, order_of}
 use Rattle.world.specs.Learner.{Learner, Learned, ready, learning, holds, after_line}

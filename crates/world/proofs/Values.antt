@@ -15,7 +15,7 @@ use Rattle.mrp_types.specs.Book.{Learning, book_of, covers}
 use Rattle.transcript.specs.declared.line.Line.{Line}
 use Rattle.transcript.specs.declared.line.Line.TheVariants.{Learn}
 use Rattle.plain_model.specs.Lines.{learnings, book}
-use Rattle.plain_model.specs.Faithful.{position}
+use Rattle.world.specs.Rules.{position}
 use Rattle.plain_model.proofs.Fronts.{learnings-append, book-more}
 use Rattle.mrp_config.specs.declared.tables.RingTable.{RingTable}
 use Rattle.frames.specs.declared.body.Body.{Body}

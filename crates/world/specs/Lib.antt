@@ -2,5 +2,7 @@ pub mod Ring
 pub mod Built
 pub mod Learner
 pub mod System
+pub mod Lines
+pub mod Rules
 pub mod Order
 pub mod Rows

@@ -5,8 +5,8 @@ use Rattle.mrp_types.specs.declared.id.RingId.{RingId}
 use Rattle.mrp_types.specs.Seats.{seat_of}
 use Rattle.mrp_config.specs.declared.tables.RingTable.{RingTable}
 use Rattle.transcript.specs.declared.line.Line.{Line}
-use Rattle.plain_model.specs.Lines.{deliveries, counted}
-use Rattle.plain_model.specs.Faithful.{Order, IsFaithful}
+use Rattle.world.specs.Lines.{deliveries, counted}
+use Rattle.world.specs.Rules.{Order, IsFaithful}
 
 -- the node is an acceptor of the ring, and the ring is this one
 abbrev pub is_of : RingTable → NodeId → RingId → Bool

@@ -4,8 +4,8 @@ ghost use Rattle.std.specs.Prelude.{◌≡◌, List, length};
 ghost use Rattle.mrp_types.specs.declared.id.NodeId.{NodeId};
 ghost use Rattle.mrp_config.specs.declared.tables.RingTable.{RingTable};
 ghost use Rattle.schedule.specs.declared.event.ScheduleEvent.{ScheduleEvent};
-ghost use Rattle.plain_model.specs.Faithful.{IsFaithful};
-ghost use Rattle.plain_model.specs.Lines.{deliveries, counted};
+ghost use Rattle.world.specs.Rules.{IsFaithful};
+ghost use Rattle.world.specs.Lines.{deliveries, counted};
 ghost use Rattle.world.specs.Order.{order_of};
 ghost use Rattle.world.specs.System.{trace};
 

@@ -1,4 +1,5 @@
--- Faithful lines: each line meets the rule of its kind with respect to the lines before it.
+-- What the lines of one ring keep, whose nodes are ready from the start: each meets the rule of its kind with respect to the lines
+-- before it.
 use Rattle.std.specs.Prelude.{ℕ, ◌≡◌, ◌≤◌, ◌<◌, ◌+◌, Bool, IsTrue, List, [], ◌∷◌, ◌++◌, Some}
 use Rattle.mrp_types.specs.declared.id.NodeId.{NodeId}
 use Rattle.mrp_types.specs.declared.id.RingId.{RingId}
@@ -8,7 +9,8 @@ use Rattle.mrp_types.specs.declared.value.Value.{Value}
 use Rattle.mrp_types.specs.declared.value.Value.TheVariants.{Skip, Batch}
 use Rattle.transcript.specs.declared.line.Line.{Line}
 use Rattle.transcript.specs.declared.line.Line.TheVariants.{Learn, Deliver}
-use Rattle.plain_model.specs.Lines.{book, position_from}
+use Rattle.plain_model.specs.Lines.{IsWide, book}
+use Rattle.world.specs.Lines.{position_from}
 
 -- What the rules ask of a deployment: which nodes and rings it has; the rings to which a node subscribes, the number of each
 -- place among the places of these rings, and the number from which on the node is ready at the start.
@@ -21,11 +23,6 @@ pub record Order : Type 0 where
 -- where a node stands after lines
 abbrev pub position : Order → List Line → NodeId → ℕ
 position o before node = position_from (o.number node) node (o.ready node) before
-
--- Skip may stand for many instances, a batch for one
-abbrev pub IsWide : Value → ℕ → ℕ → Type 0
-IsWide Skip lo hi = Unit {0}
-IsWide (Batch batch) lo hi = hi ≡ lo + 1
 
 -- F1, of a learn line: a node and a ring that fit, a range of instances below END, of one instance where it has a batch, and
 -- for each instance of it that is in the book this value there.
