@@ -1,3 +1,7 @@
+ghost use Rattle.std.specs.Prelude.{refl};
+ghost use Rattle.std.specs.Option.{option_map};
+ghost use Rattle.std.proofs.Common.{ap};
+ghost use Rattle.disk_model.specs.Sim.{Sim};
 ghost use Rattle.disk_model.specs.Calls.{Told, Tells, IsSettled};
 
 use super::*;
@@ -226,7 +230,7 @@ impl Disk for Noting {
 
     ghost wants = { λ d. ⟦<SimDisk as Disk>⟧.wants d.disk };
 
-    ghost tells = { λ d. ⟦<SimDisk as Disk>⟧.tells d.disk };
+    ghost tells = { λ d s is. record { honest = refl; told = ap (option_map (λ (x : Sim). x.told)) is } };
 
     fn len(&mut self, area: Area) -> Result<u64, Refused> {
         self.disk.len(area)
