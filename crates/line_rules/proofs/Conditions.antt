@@ -2,13 +2,13 @@
 use Rattle.std.proofs.Common.{◌≡◌, ℕ, Bool, true, false, List, [], ◌∷◌, Option, Some, None, refl, sym}
 use Rattle.std.specs.Prelude.{◌&&◌, ◌==◌, not, is_some, bytes_eq}
 use Rattle.mrp_types.specs.Values.{is_skip}
-use Rattle.mrp_config.specs.Config.{Config, has_node}
+use Rattle.mrp_config.specs.Config.{Config, has_node, partition_of}
 use Rattle.mrp_config.specs.declared.tables.PartitionTable.{PartitionTable}
 use Rattle.plain_model.specs.Fold.{state_below}
 use Rattle.plain_model.specs.Tuples.{round_sizes, is_tuple_of, is_at_or_after}
 use Rattle.transcript.specs.declared.line.Line.{Line}
 use Rattle.transcript.specs.declared.line.Line.TheVariants.{Learn, Deliver, Reply, Answer, Begin, Chose, Restore, Saved, Trim, Refuse, State, Frame}
-use Rattle.line_rules.specs.Scanners.{up_epoch, attempting, chosen, before_begin, told, begun, position, learned, paired, partition_of}
+use Rattle.line_rules.specs.Scanners.{up_epoch, attempting, chosen, before_begin, told, begun, position, learned, paired}
 use Rattle.line_rules.specs.Names.{Rule}
 use Rattle.line_rules.specs.Names as rule
 use Rattle.line_rules.specs.Tests.{is_some_that, all_pass, is_ready, each_between, each_below, is_shown, is_fit, is_pair, is_among, is_trim_reached, reaches, is_later, is_in_turn, do_names_fit, keeps_f1, keeps_f2, keeps_f3, keeps_f4, keeps_f5, keeps_f6, keeps_f7, keeps_f8, keeps_f9, delivers, stands, shows, chooses, restores, begins, refuses}

@@ -3,7 +3,7 @@ use Rattle.std.specs.Prelude.{ℕ, suc, ◌==◌, nat_le, nat_lt, ◌&&◌, not,
 use Rattle.mrp_types.specs.declared.id.NodeId.{NodeId}
 use Rattle.mrp_types.specs.declared.id.RingId.{RingId}
 use Rattle.mrp_types.specs.declared.id.TheConstants.{END}
-use Rattle.mrp_config.specs.Config.{Config, has_node, has_ring}
+use Rattle.mrp_config.specs.Config.{Config, has_node, has_ring, partition_of, subscribers_of}
 use Rattle.mrp_config.specs.declared.tables.PartitionTable.{PartitionTable}
 use Rattle.plain_model.specs.Tuples.{round_sizes, is_tuple_of, is_at_or_after, tuple_at}
 use Rattle.plain_model.specs.Fold.{place_with, state_below, answer_of}
@@ -11,7 +11,7 @@ use Rattle.mrp_types.specs.Values.{is_skip}
 use Rattle.transcript.specs.declared.line.ShownState.{ShownState}
 use Rattle.transcript.specs.declared.line.Line.{Line}
 use Rattle.transcript.specs.declared.line.Line.TheVariants.{Learn, Deliver, Reply, Answer, Busy, Begin, Chose, Restore, Saved, Trim, Refuse, BallotLimit, InstanceLimit, AttemptLimit, Down, Up, State, Frame}
-use Rattle.line_rules.specs.Scanners.{up_epoch, attempting, unchosen, chosen, before_begin, told, begun, paired, position, book, learned, partition_of, subscribers_of}
+use Rattle.line_rules.specs.Scanners.{up_epoch, attempting, unchosen, chosen, before_begin, told, begun, paired, position, book, learned}
 use Rattle.line_rules.specs.Names.{Rule, rules}
 use Rattle.line_rules.specs.Names as rule
 use Rattle.line_rules.specs.Tests.{is_some_that, all_pass, is_empty, has_node_of, has_ring_of, has_client_of, is_ready, is_batch, each_passes, each_between, each_below, is_shown, is_pair, is_among, is_wide, agrees, has_party, is_in_turn, is_trim_reached, have_told, reaches, is_later, is_past}
