@@ -32,6 +32,3 @@ pub use tuple_laws::{
 };
 pub use value::{Entry, Value};
 pub use voted::{Decided, Ranges, Voted, Votes};
-
-#[cfg(test)]
-mod tests;

@@ -16,6 +16,3 @@ pub use memory::{MemSink, MemSource};
 pub use refused::Refused;
 pub use sink::{Sink, WriteSink, write_all};
 pub use source::{ReadSource, Source, read_front};
-
-#[cfg(test)]
-mod tests;

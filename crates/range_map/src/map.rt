@@ -155,6 +155,3 @@ impl<T: Same + Drop> RangeMap<T> {
         Some((begin, end))
     }
 }
-
-#[cfg(test)]
-mod tests;

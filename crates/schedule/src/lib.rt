@@ -24,6 +24,3 @@ pub use laws::generated_schedules_may_be;
 pub use reading::read;
 pub use rows::{events_of_each_kind, first_faults, texts_of_clients};
 pub use writing::{put_event, write};
-
-#[cfg(test)]
-mod tests;

@@ -11,6 +11,3 @@ pub use fault::TextFault;
 pub use find::{FirstLine, find_byte, split_line};
 pub use words::{Words, bytes_of_word, number_of_word};
 pub use writing::{put_bytes, put_decimal, put_hex, put_number, put_word};
-
-#[cfg(test)]
-mod tests;

@@ -24,6 +24,3 @@ pub use lines::Lines;
 pub use reading::read_line;
 pub use rows::{first_faults, lines_of_each_kind};
 pub use writing::{put_line, write_line};
-
-#[cfg(test)]
-mod tests;

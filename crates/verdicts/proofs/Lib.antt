@@ -1,2 +1,1 @@
-mod BatchRow
 mod AskedLine

@@ -32,6 +32,23 @@ pub fn text_of_config(alloc: Global, texts: &Texts, case: &str) -> Result<Option
     Ok(Some(format!(in alloc; "{before}{new}{behind}")?))
 }
 
+/// The text of a deployment and a comment behind it, so many bytes in all where the text isn't longer; none where there
+/// is no such text.
+pub fn padded_text(alloc: Global, texts: &Texts, case: &str) -> Result<Option<String>, Memory> {
+    let Some((name, length)) = case.split_once(' ') else {
+        return Ok(None);
+    };
+    let (Some(text), Ok(length)) = (texts.named(name), length.parse::<u32>()) else {
+        return Ok(None);
+    };
+    let mut text = String::from_str(alloc, text)?;
+    text.push('#')?;
+    for _turn in text.len()..length as usize {
+        text.push(' ')?;
+    }
+    Ok(Some(text))
+}
+
 /// The text with a line feed for each `\n`, a tab for each `\t` and a carriage return for each `\r`.
 pub fn with_control(alloc: Global, text: &str) -> Result<String, Memory> {
     let text = text

@@ -7,6 +7,7 @@ ghost use Rattle.config_walk.specs.declared.fault.ConfigFault.TheVariants.{Memor
 ghost use Rattle.schedule.specs.declared.fault.FaultKind.TheVariants.{Memory as NoScheduleMemory};
 ghost use Rattle.transcript.specs.declared.fault.LineKind.TheVariants.{Memory as NoLineMemory};
 ghost use Rattle.vote_journal.specs.declared.fault.OpenFault.TheVariants.{Memory as NoOpenMemory};
+ghost use Rattle.text_lines.specs.Text.{hex_text};
 ghost use Rattle.verdicts.specs.Texts.{numbered, frame_fault_text, codec_fault_text, config_fault_text, schedule_fault_text, line_fault_text, open_fault_text};
 
 use command_codec::CodecFault;
@@ -24,6 +25,16 @@ pub fn said(alloc: Global, word: &str) -> Result<Octets, Memory>
     ensures { IfOk result (λ text. text ≡ word.now) }
 {
     Octets::from_slice(alloc, word.as_bytes())
+}
+
+/// Bytes in hexadecimal, `-` for none.
+pub fn said_in_hex(alloc: Global, bytes: &[u8]) -> Result<Octets, Memory>
+    ensures { IfOk result (λ text. text ≡ hex_text bytes.now) }
+{
+    if bytes.is_empty() {
+        return said(alloc, "-");
+    }
+    said(alloc, hex::encode(alloc, bytes)?.as_str())
 }
 
 /// A word, and a number behind it.

@@ -3,11 +3,10 @@
 ghost use Rattle.std.specs.Prelude.{◌≡◌, IfOk};
 ghost use Rattle.disk_model.specs.Calls.{area_bytes};
 ghost use Rattle.disk_model.specs.declared.area.Area.TheVariants.{Journal0, Journal1};
-ghost use Rattle.text_lines.specs.Text.{hex_text};
 ghost use Rattle.verdicts.specs.Texts.{state_text as state_text_lem, areas_text as areas_text_lem};
 
 use crate::bytes_of::bytes_of_hex;
-use crate::faults::{open_fault, said};
+use crate::faults::{open_fault, said, said_in_hex};
 use disk_model::{Area, SimDisk};
 use mrp_types::{Memory, NodeId, Octets, RingId};
 use std::alloc::Global;
@@ -85,17 +84,8 @@ pub fn compacted(alloc: Global, areas: (Vec<u8>, Vec<u8>)) -> Result<Octets, Mem
 fn areas_text(alloc: Global, disk: &SimDisk) -> Result<Octets, Memory>
     ensures { IfOk result (λ text. text ≡ areas_text_lem (area_bytes Journal0 disk.now.told) (area_bytes Journal1 disk.now.told)) }
 {
-    let mut text = area_text(alloc, disk.bytes(Area::Journal0))?;
-    let second = area_text(alloc, disk.bytes(Area::Journal1))?;
+    let mut text = said_in_hex(alloc, disk.bytes(Area::Journal0))?;
+    let second = said_in_hex(alloc, disk.bytes(Area::Journal1))?;
     put_word(&mut text, second.bytes())?;
     Ok(text)
-}
-
-fn area_text(alloc: Global, bytes: &[u8]) -> Result<Octets, Memory>
-    ensures { IfOk result (λ text. text ≡ hex_text bytes.now) }
-{
-    if bytes.is_empty() {
-        return said(alloc, "-");
-    }
-    said(alloc, hex::encode(alloc, bytes)?.as_str())
 }

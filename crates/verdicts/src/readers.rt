@@ -8,12 +8,17 @@ ghost use Rattle.frames.specs.Spelling.{frame_bytes};
 ghost use Rattle.frames.specs.Valid.{IsFrame};
 ghost use Rattle.mrp_config.specs.Walk.{read_of as config_of};
 ghost use Rattle.schedule.specs.Asking.{asked_of};
+ghost use Rattle.schedule.specs.Generating.{generated};
 ghost use Rattle.schedule.specs.Reading.{schedule_of};
+ghost use Rattle.schedule.specs.Spelling.{schedule_text};
+ghost use Rattle.text_lines.specs.Text.{hex_text};
 ghost use Rattle.schedule.specs.declared.event.ScheduleEvent.TheVariants.{Ask};
 ghost use Rattle.transcript.specs.Reading.{line_at};
 ghost use Rattle.verdicts.specs.Texts.{verdict_of, frame_fault_text, codec_fault_text, config_fault_text, schedule_fault_text, line_fault_text};
 
-use crate::faults::{codec_fault, config_fault, frame_fault, line_fault, said, schedule_fault};
+use crate::faults::{
+    codec_fault, config_fault, frame_fault, line_fault, said, said_in_hex, schedule_fault,
+};
 use command_codec::limits::VALUE;
 use command_codec::{
     Command, read_batch, read_command, read_reply, write_batch, write_command, write_reply,
@@ -158,6 +163,20 @@ fn asked_by_the_first(alloc: Global, command: Command) -> Result<Schedule, Memor
     Ok(events)
 }
 
+/// The schedule of so many events that is drawn of a seed, in hexadecimal.
+pub fn drawn_text(
+    alloc: Global,
+    deployment: &Deployment,
+    seed: u64,
+    events: u32,
+) -> Result<Octets, Memory>
+    ensures { IfOk result (λ text. text ≡ hex_text (schedule_text (generated deployment.now seed events))) }
+{
+    let events = schedule::generate(alloc, deployment, seed, events)?;
+    let written = schedule::write(alloc, &events)?;
+    said_in_hex(alloc, written.bytes())
+}
+
 /// Of a line of a transcript, which is the first one.
 pub fn line_verdict(alloc: Global, text: &[u8]) -> Result<Octets, Memory>
     ensures { IfOk result (λ verdict. verdict ≡ verdict_of line_fault_text (line_at text.now)) }
@@ -177,12 +196,14 @@ pub fn bytes_verdict(alloc: Global, word: &str, bytes: &[u8]) -> Result<Octets, 
     ensures command { word.now ≡ codes "command" → IfOk result (λ text. text ≡ verdict_of codec_fault_text (command_of bytes.now)) }
     ensures batch { word.now ≡ codes "batch" → IfOk result (λ text. text ≡ verdict_of codec_fault_text (batch_of bytes.now)) }
     ensures reply { word.now ≡ codes "reply" → IfOk result (λ text. text ≡ verdict_of codec_fault_text (reply_of bytes.now)) }
+    ensures toml { word.now ≡ codes "toml" → IfOk result (λ text. text ≡ verdict_of config_fault_text (config_of bytes.now)) }
 {
     match word {
         "frame" => frame_verdict(alloc, bytes),
         "command" => command_verdict(alloc, bytes),
         "batch" => batch_verdict(alloc, bytes),
         "reply" => reply_verdict(alloc, bytes),
+        "toml" => config_verdict(alloc, bytes),
         _ => said(alloc, "no case"),
     }
 }
