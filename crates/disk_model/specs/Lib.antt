@@ -6,3 +6,4 @@ pub mod Running
 pub mod Sim
 pub mod Steps
 pub mod Undoing
+pub mod Went
