@@ -14,7 +14,7 @@ use Rattle.disk_model.proofs.Reading.{area_bytes-and_then, reads-bytes, reading-
 use Rattle.gate_area.specs.declared.pair.Pair.TheVariants.{Journal}
 use Rattle.gate_area.specs.declared.pair.Head.{Head}
 use Rattle.gate_area.specs.declared.pair.Head.TheVariants.{Closed, Spoilt, Open}
-use Rattle.gate_area.specs.Gate.{gate_steps, opened, OpenOrShut, OthersStay}
+use Rattle.gate_area.specs.Gate.{gate_calls, gate_steps, opened, OpenOrShut, OthersStay}
 use Rattle.gate_area.specs.Standing.{judged, stands, head_of}
 use Rattle.gate_area.proofs.Moments.{found_file}
 use Rattle.gate_area.proofs.Phases.{reads_image}

@@ -1,19 +1,20 @@
--- The calls of an opening.
-use Rattle.std.proofs.Common.{◌≡◌, ℕ, Bool, true, List, [], ◌∷◌, ◌++◌, length, take, Option, None, Some, Ok, Err, refl, ap, sym, ◌∙◌, subst, arith}
+-- What a disk tells and holds at an opening.
+use Rattle.std.proofs.Common.{◌≡◌, ℕ, Bool, List, [], ◌∷◌, Option, None, Some, Ok, ◌∙◌, sym, subst, arith}
 use Rattle.disk_model.specs.declared.area.Area.TheVariants.{Journal0}
-use Rattle.disk_model.specs.declared.call.Call.{Call}
 use Rattle.disk_model.specs.declared.call.Call.TheVariants.{Sync}
-use Rattle.disk_model.specs.Calls.{Told, Tells, and_then, followed, made_by, Makes, MakesFirst, on, reads, IsSettled}
+use Rattle.disk_model.specs.declared.disk.Disk.{Ghosts}
+use Rattle.disk_model.specs.Calls.{Told, Tells, and_then, followed, reads, IsSettled}
+use Rattle.disk_model.specs.Running.{Passed}
+use Rattle.disk_model.specs.Went.{WentBy}
 use Rattle.disk_model.proofs.OnArea.{settled-sync}
-use Rattle.disk_model.proofs.Reading.{area_bytes-and_then, reads_synced}
 use Rattle.disk_model.proofs.Telling.{told_before, made_plain}
+use Rattle.disk_model.proofs.Went.{went_told}
 use Rattle.gate_area.specs.declared.pair.Pair.TheVariants.{Journal}
-use Rattle.gate_area.specs.Gate.{retire_steps, gate_calls, renew_calls}
+use Rattle.gate_area.specs.Gate.{renew_calls}
+use Rattle.gate_area.specs.Operations.{renew_ops}
 use Rattle.gate_area.specs.Standing.{stands}
-use Rattle.gate_log.specs.Journal.{Holds, log_of, begin_calls, find_calls, open_calls}
+use Rattle.gate_log.specs.Journal.{Holds, log_of}
 use Rattle.gate_log.specs.Records.{area_body}
-use Rattle.gate_log.proofs.Moves.{Judgement, after_all}
-use Rattle.gate_area.proofs.Phases.{makes_as, makes_first_as, makes_synced, makes_first_synced}
 use Rattle.gate_log.proofs.Renewals.{length-body, renewed, fresh_holds}
 
 -- what a disk tells, by an equal one

@@ -1,14 +1,13 @@
 //! One record in place of all.
 
 ghost use Rattle.std.specs.Prelude.{◌≡◌, ◌⊎◌, ◌≤◌, ◌+◌, ◌-◌, ◌<◌, ◌^◌, ℕ, List, [], ◌∷◌, length, OnOk, IfOk, IsErrOf, MatchResult};
-ghost use Rattle.disk_model.specs.Calls.{Told, Tells, Makes, MakesFirst, LeavesOnly, IsSettled, reads};
-ghost use Rattle.disk_model.specs.Running.{GoesBy};
+ghost use Rattle.disk_model.specs.Calls.{Told, Tells, LeavesOnly, IsSettled, reads};
+ghost use Rattle.disk_model.specs.Went.{WentBy};
 ghost use Rattle.disk_model.specs.declared.area.Area.{Area as SomeArea};
-ghost use Rattle.gate_log.specs.Journal.{Holds, IsLogOf, compact_calls, compacted};
+ghost use Rattle.gate_log.specs.Journal.{Holds, IsLogOf, compacted};
 ghost use Rattle.gate_log.specs.Operations.{compact_ops, log_ending};
-ghost use Rattle.gate_log.specs.Moments.{LogCauses, OldOrNew};
+ghost use Rattle.gate_log.specs.Moments.{OldOrNew};
 ghost use Rattle.gate_log.specs.declared.fault.LogFault.TheVariants.{Full as LogFull, Memory as LogMemory, Damaged as LogDamaged};
-ghost use Rattle.vote_journal.specs.Faults.{JournalCauses};
 ghost use Rattle.vote_journal.specs.Journal.{Stands, BeforeOrAfter, compact_record, compacted_journal};
 ghost use Rattle.vote_journal.specs.Operations.{compaction_ops, journal_ending};
 ghost use Rattle.vote_journal.specs.declared.fault.JournalFault.TheVariants.{Full, Memory};

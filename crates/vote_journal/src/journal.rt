@@ -2,19 +2,18 @@
 
 ghost use Rattle.std.specs.Prelude.{◌≡◌, ◌⊎◌, ◌≤◌, ◌<◌, ◌+◌, ◌-◌, ◌^◌, ◌++◌, ℕ, List, [], ◌∷◌, length, OnOk, IfOk, IsErrOf, IsTrue, MatchResult};
 ghost use Rattle.std.specs.List.{AllByRecursion};
-ghost use Rattle.disk_model.specs.Calls.{Told, Tells, Makes, MakesFirst, LeavesOnly, IsSettled, reads};
+ghost use Rattle.disk_model.specs.Calls.{Told, Tells, LeavesOnly, IsSettled, reads};
 ghost use Rattle.disk_model.specs.Causes.{Rose};
-ghost use Rattle.disk_model.specs.Running.{GoesBy};
+ghost use Rattle.disk_model.specs.Went.{WentBy};
 ghost use Rattle.gate_log.specs.Operations.{append_ops, log_ending};
-ghost use Rattle.gate_log.specs.Journal.{Holds, IsLogOf, append_calls, appended};
-ghost use Rattle.gate_log.specs.Moments.{LogCauses, OldOrNew};
+ghost use Rattle.gate_log.specs.Journal.{Holds, IsLogOf, appended};
+ghost use Rattle.gate_log.specs.Moments.{OldOrNew};
 ghost use Rattle.gate_log.specs.declared.fault.LogFault.TheVariants.{Full as LogFull, Memory as LogMemory, Damaged as LogDamaged};
 ghost use Rattle.disk_model.specs.declared.area.Area.{Area as SomeArea};
 ghost use Rattle.vote_state.specs.State.{taken};
 ghost use Rattle.vote_state.specs.Valid.{IsChange};
 ghost use Rattle.vote_journal.specs.Epochs.{epochs_rise};
-ghost use Rattle.vote_journal.specs.Faults.{JournalCauses};
-ghost use Rattle.vote_journal.specs.Journal.{Stands, BeforeOrAfter, record_calls, recorded, recorded_end};
+ghost use Rattle.vote_journal.specs.Journal.{Stands, BeforeOrAfter, recorded, recorded_end};
 ghost use Rattle.vote_journal.specs.Operations.{journal_ending, record_ops};
 ghost use Rattle.vote_journal.specs.declared.fault.JournalFault.TheVariants.{Full, Memory};
 

@@ -1,14 +1,14 @@
 //! The opening of a journal.
 
 ghost use Rattle.std.specs.Prelude.{◌≡◌, ◌⊎◌, ◌≤◌, ◌<◌, ◌+◌, ◌^◌, ◌==◌, ◌++◌, ℕ, List, [], ◌∷◌, length, OnOk, IfOk, IsErrOf, IsTrue, MatchResult, Ok, Err};
-ghost use Rattle.disk_model.specs.Calls.{Told, Tells, Makes, MakesFirst, LeavesOnly, IsSettled, reads};
-ghost use Rattle.disk_model.specs.Running.{GoesBy};
+ghost use Rattle.disk_model.specs.Calls.{Told, Tells, LeavesOnly, IsSettled, reads};
+ghost use Rattle.disk_model.specs.Went.{WentBy};
 ghost use Rattle.gate_log.specs.Records.{room, end_of};
 ghost use Rattle.gate_log.specs.Journal.{Log, Holds, records_in};
 ghost use Rattle.gate_log.specs.Moments.{SinceSync};
 ghost use Rattle.vote_state.specs.State.{State, taken};
-ghost use Rattle.vote_journal.specs.Faults.{Says, OpenCauses};
-ghost use Rattle.vote_journal.specs.Journal.{Stands, OpensBy, OpenLeaves, IsOpened, opening_calls, opened_state, record_of, epoch_record};
+ghost use Rattle.vote_journal.specs.Faults.{Says};
+ghost use Rattle.vote_journal.specs.Journal.{Stands, OpensBy, OpenLeaves, IsOpened, opened_state, record_of, epoch_record};
 ghost use Rattle.vote_journal.specs.Operations.{open_ending, opening_ops};
 ghost use Rattle.vote_journal.specs.declared.fault.OpenFault.TheVariants.{Memory as NoMemory, Disk};
 ghost use Rattle.vote_state.specs.Valid.{IsChange};
