@@ -6,3 +6,4 @@ pub mod Reading
 pub mod Running
 pub mod Telling
 pub mod Undoing
+pub mod Went

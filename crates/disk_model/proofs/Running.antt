@@ -1,32 +1,37 @@
 -- How a call of several operations goes by all of them.
-use Rattle.std.proofs.Common.{◌≡◌, ℕ, suc, Bool, true, false, List, [], ◌∷◌, ◌++◌, take, Option, Some, refl, ap, sym, ◌∙◌, subst, Result, Ok, Err, IsErrAnd}
-use Rattle.std.proofs.lemmas.List.{append-nil, append_assoc}
-use Rattle.disk_model.specs.declared.area.Refused.{Refused}
-use Rattle.disk_model.specs.declared.area.Refused.TheVariants.{Failed, Memory}
+use Rattle.std.proofs.Common.{◌≡◌, ◌⊎◌, inl, inr, ℕ, suc, ◌+◌, min, Bool, true, false, List, [], ◌∷◌, ◌++◌, length, take, Option, Some, refl, ap, sym, ◌∙◌, subst, arith}
+use Rattle.std.proofs.Math.Seq.{take-append-add, take-append_seam}
+use Rattle.std.proofs.lemmas.List.{append-nil, append_assoc, take-append-le, take_min}
 use Rattle.disk_model.specs.declared.call.Call.{Call}
 use Rattle.disk_model.specs.Calls.{Told, and_then}
 use Rattle.disk_model.specs.Sim.{Sim}
-use Rattle.disk_model.specs.Running.{Op, Asks, Reads, Does, Ending, Passed, Stopped, Wanted, ending, refused_ending, falls_on, op_passed, op_failed, GoesAt, Goes, Ran, ran, by_fault, changes_in, Came, GoesBy}
+use Rattle.disk_model.specs.Running.{Op, Asks, Reads, Does, Ending, Passed, Stopped, Wanted, falls_on, op_passed, op_failed, in_want, GoesAt, Goes, Ran, ran, by_fault, changes_in, Left, WantedIn, Came, GoesBy}
 
 -- ---- one operation and then others
 
 -- no operation is left
-pub no_more : (d : Sim) (now : Option Sim) → now ≡ Some d → Came (ran [] d) now Passed
+pub no_more : (d : Sim) (now : Option Sim) → now ≡ Some d → Came [] d now Passed
 unfolding ran
 no_more d now is = (refl, is)
 
 -- one has passed, and the others go on from what it left
 pub one_more : (op : Op) (ops : List Op) (d : Sim) (mid now : Option Sim) (e : Ending) → GoesAt op d mid Passed
-    → Came (ran ops (op_passed op d)) now e → Came (ran (op ∷ ops) d) now e
+    → Came ops (op_passed op d) now e → Came (op ∷ ops) d now e
 unfolding ran
-one_more op ops d mid now e goes more = subst (λ b. Came (by_fault op d (λ next. ran ops next) b) now e) goes.exactly more
+one_more op ops d mid now Passed goes more = subst (λ b. Left (by_fault op d (λ next. ran ops next) b) now true) goes.exactly more
+one_more op ops d mid now Stopped goes more = subst (λ b. Left (by_fault op d (λ next. ran ops next) b) now false) goes.exactly more
+one_more op ops d mid now Wanted goes more = record {
+  count = suc more.count;
+  passed = subst (λ b. (by_fault op d (λ next. ran (take more.count ops) next) b).done ≡ true) goes.exactly more.passed;
+  disk = subst (λ b. (let r : Ran = by_fault op d (λ next. ran (take more.count ops) next) b in (now ≡ Some r.disk) ⊎ (now ≡ Some (in_want r.disk)))) goes.exactly more.disk;
+}
 
 -- one was refused, and is the last one
-pub last_one : (op : Op) (ops : List Op) (d : Sim) (now : Option Sim) (refused : Refused) → GoesAt op d now (refused_ending refused)
-    → Came (ran (op ∷ ops) d) now (refused_ending refused)
+pub last_one : (op : Op) (ops : List Op) (d : Sim) (now : Option Sim) (e : Ending) → (e ≡ Passed → ⊥) → GoesAt op d now e → Came (op ∷ ops) d now e
 unfolding ran
-last_one op ops d now Failed goes = subst (λ b. Came (by_fault op d (λ next. ran ops next) b) now Stopped) goes.exactly (refl, goes.disk)
-last_one op ops d now Memory goes = tt
+last_one op ops d now Passed never goes = absurd (never refl)
+last_one op ops d now Stopped never goes = subst (λ b. Left (by_fault op d (λ next. ran ops next) b) now false) goes.exactly (refl, goes.disk)
+last_one op ops d now Wanted never goes = record { count = 0; passed = refl; disk = inr goes.disk }
 
 -- ---- two lists of operations
 
@@ -46,17 +51,50 @@ unfolding ran go_on
 ran-append [] ys d = refl
 ran-append (op ∷ xs) ys d = first_by op xs ys d (falls_on d.trouble.plan op) (ran-append xs ys (op_passed op d))
 
--- the first has passed
-pub then_come : (xs ys : List Op) (d : Sim) (mid now : Option Sim) (e : Ending) → Came (ran xs d) mid Passed → Came (ran ys (ran xs d).disk) now e → Came (ran (xs ++ ys) d) now e
+joined : (xs ys : List Op) (d : Sim) → (ran xs d).done ≡ true → ran (xs ++ ys) d ≡ ran ys (ran xs d).disk
 unfolding go_on
-then_come xs ys d mid now e first second =
-    subst (λ r. Came r now e) (sym (ran-append xs ys d)) (subst (λ b. Came (go_on (ran xs d) ys b) now e) (sym first.0) second)
+joined xs ys d done = ran-append xs ys d ∙ ap (λ b. go_on (ran xs d) ys b) done
 
--- one of the first was refused
-pub come_first : (xs ys : List Op) (d : Sim) (now : Option Sim) (refused : Refused) → Came (ran xs d) now (refused_ending refused) → Came (ran (xs ++ ys) d) now (refused_ending refused)
+-- the first has passed
+pub then_come : (xs ys : List Op) (d : Sim) (mid now : Option Sim) (e : Ending) → Came xs d mid Passed → Came ys (ran xs d).disk now e → Came (xs ++ ys) d now e
+then_come xs ys d mid now Passed first second = subst (λ r. Left r now true) (sym (joined xs ys d first.0)) second
+then_come xs ys d mid now Stopped first second = subst (λ r. Left r now false) (sym (joined xs ys d first.0)) second
+then_come xs ys d mid now Wanted first second =
+    let part = take-append-add xs ys second.count in
+    let is : ran (take (length xs + second.count) (xs ++ ys)) d ≡ ran (take second.count ys) (ran xs d).disk = ap (λ ops. ran ops d) part ∙ joined xs (take second.count ys) d first.0 in
+    record {
+      count = length xs + second.count;
+      passed = subst (λ r. r.done ≡ true) (sym is) second.passed;
+      disk = subst (λ r. (now ≡ Some r.disk) ⊎ (now ≡ Some (in_want r.disk))) (sym is) second.disk;
+    }
+
+-- the first of the first are the first of all
+pub take_front : {A : Type 0} (n : ℕ) (xs ys : List A) → take (min n (length xs)) (xs ++ ys) ≡ take n xs
+take_front n xs ys = take-append-le (min n (length xs)) xs ys (omega arith) ∙ take_min n xs
+
+-- the first has not passed
+pub come_first : (xs ys : List Op) (d : Sim) (now : Option Sim) (e : Ending) → (e ≡ Passed → ⊥) → Came xs d now e → Came (xs ++ ys) d now e
 unfolding go_on
-come_first xs ys d now Failed first = subst (λ r. Came r now Stopped) (sym (ran-append xs ys d)) (subst (λ b. Came (go_on (ran xs d) ys b) now Stopped) (sym first.0) first)
-come_first xs ys d now Memory first = tt
+come_first xs ys d now Passed never first = absurd (never refl)
+come_first xs ys d now Stopped never first =
+    subst (λ r. Left r now false) (sym (ran-append xs ys d)) (subst (λ b. Left (go_on (ran xs d) ys b) now false) (sym first.0) first)
+come_first xs ys d now Wanted never first =
+    let part = take_front first.count xs ys in
+    record {
+      count = min first.count (length xs);
+      passed = subst (λ ops. (ran ops d).done ≡ true) (sym part) first.passed;
+      disk = subst (λ ops. (now ≡ Some (ran ops d).disk) ⊎ (now ≡ Some (in_want (ran ops d).disk))) (sym part) first.disk;
+    }
+
+-- the first has passed, and then the caller found no memory
+pub come_wanting : (xs ys : List Op) (d : Sim) (now : Option Sim) → Came xs d now Passed → Came (xs ++ ys) d now Wanted
+come_wanting xs ys d now first =
+    let part = take-append_seam xs ys in
+    record {
+      count = length xs;
+      passed = subst (λ ops. (ran ops d).done ≡ true) (sym part) first.0;
+      disk = inl (subst (λ ops. now ≡ Some (ran ops d).disk) (sym part) first.1);
+    }
 
 -- ---- what they have changed
 
@@ -126,41 +164,12 @@ some_told (op ∷ ops) d = some_by op ops d (falls_on d.trouble.plan op) (some_t
 -- one operation is a list of one
 pub one_goes : (op : Op) (old now : Option Sim) (e : Ending) → Goes op old now e → GoesBy (λ t. op ∷ []) old now e
 one_goes op old now Passed goes d is = let here = goes d is in one_more op [] d now now Passed here (no_more (op_passed op d) now here.disk)
-one_goes op old now Stopped goes d is = last_one op [] d now Failed (goes d is)
-one_goes op old now Wanted goes d is = tt
-
--- one operation has passed, and then the others
-pub step_goes : (op : Op) (ops : List Op) (old mid now : Option Sim) (e : Ending) → Goes op old mid Passed → GoesBy (λ t. ops) mid now e → GoesBy (λ t. op ∷ ops) old now e
-step_goes op ops old mid now e first others d is = let here = first d is in one_more op ops d mid now e here (others (op_passed op d) here.disk)
-
--- one operation was refused, and no other follows
-pub last_goes : (op : Op) (ops : List Op) (old now : Option Sim) (refused : Refused) → Goes op old now (refused_ending refused) → GoesBy (λ t. op ∷ ops) old now (refused_ending refused)
-last_goes op ops old now refused goes d is = last_one op ops d now refused (goes d is)
+one_goes op old now Stopped goes d is = last_one op [] d now Stopped (λ no. absurd cc) (goes d is)
+one_goes op old now Wanted goes d is = last_one op [] d now Wanted (λ no. absurd cc) (goes d is)
 
 -- the first has passed, and the second goes by what was told then
 pub all_go : (xs ys : Told → List Op) (old mid now : Option Sim) (e : Ending) → GoesBy xs old mid Passed → GoesBy ys mid now e → GoesBy (λ t. xs t ++ ys (and_then t (changes_in (xs t)))) old now e
 all_go xs ys old mid now e first second d is =
     let here = first d is in
     then_come (xs d.told) (ys (and_then d.told (changes_in (xs d.told)))) d mid now e here
-    (subst (λ t. Came (ran (ys t) (ran (xs d.told) d).disk) now e) (all_told (xs d.told) d here.0) (second (ran (xs d.told) d).disk here.1))
-
--- the same where the second doesn't depend on what was told
-pub both_go : (xs : Told → List Op) (ys : List Op) (old mid now : Option Sim) (e : Ending) → GoesBy xs old mid Passed → GoesBy (λ t. ys) mid now e → GoesBy (λ t. xs t ++ ys) old now e
-both_go xs ys old mid now e first second = all_go xs (λ t. ys) old mid now e first second
-
--- the first was refused
-pub first_stopped : (xs ys : Told → List Op) (old now : Option Sim) (refused : Refused) → GoesBy xs old now (refused_ending refused) → GoesBy (λ t. xs t ++ ys t) old now (refused_ending refused)
-first_stopped xs ys old now refused first d is = come_first (xs d.told) (ys d.told) d now refused (first d is)
-
--- the same operations, of what a disk in memory has told
-pub same_ops : (xs ys : Told → List Op) (old now : Option Sim) (e : Ending) → ((d : Sim) → old ≡ Some d → xs d.told ≡ ys d.told) → GoesBy xs old now e → GoesBy ys old now e
-same_ops xs ys old now e same goes d is = subst (λ ops. Came (ran ops d) now e) (same d is) (goes d is)
-
--- no operation at all
-pub none_goes : (old now : Option Sim) → now ≡ old → GoesBy (λ t. []) old now Passed
-none_goes old now same d is = no_more d now (same ∙ is)
-
--- what was refused is answered
-pub refused_on : {T : Type 0} (ops : Told → List Op) (old now : Option Sim) (refused : Refused) (r : Result T Refused) → IsErrAnd r (λ e. e ≡ refused) → GoesBy ops old now (refused_ending refused) → GoesBy ops old now (ending r)
-refused_on ops old now refused (Ok x) is goes = absurd is
-refused_on ops old now refused (Err e) is goes = subst (λ x. GoesBy ops old now (refused_ending x)) (sym is) goes
+    (subst (λ t. Came (ys t) (ran (xs d.told) d).disk now e) (all_told (xs d.told) d here.0) (second (ran (xs d.told) d).disk here.1))

@@ -2,7 +2,9 @@ pub mod Areas
 pub mod Calls
 pub mod Causes
 pub mod Crash
+pub mod Rows
 pub mod Running
 pub mod Sim
 pub mod Steps
 pub mod Undoing
+pub mod Went

@@ -1,11 +1,11 @@
 -- What operations, one after another, make of a disk in memory: which of them its plan of faults stops, and what they leave.
-use Rattle.std.specs.Prelude.{◌≡◌, Bool, true, false, List, [], ◌∷◌, Option, Some, Result, Ok, Err}
+use Rattle.std.specs.Prelude.{◌≡◌, ◌⊎◌, ℕ, take, Bool, true, false, List, [], ◌∷◌, Option, Some, Result, Ok, Err}
 use Rattle.disk_model.specs.declared.area.Refused.{Refused}
 use Rattle.disk_model.specs.declared.area.Refused.TheVariants.{Failed, Memory}
 use Rattle.disk_model.specs.declared.call.Call.{Call}
 use Rattle.disk_model.specs.declared.plan.Plan.{Plan}
 use Rattle.disk_model.specs.Calls.{Told, and_then}
-use Rattle.disk_model.specs.Causes.{falls_on_len, falls_on_read, falls_on_change, len_passed, read_passed, change_passed, len_failed, read_failed, change_failed, troubled, untroubled, wanting}
+use Rattle.disk_model.specs.Causes.{Causes, Wants, falls_on_len, falls_on_read, falls_on_change, len_passed, read_passed, change_passed, len_failed, read_failed, change_failed, troubled, untroubled, wanting}
 use Rattle.disk_model.specs.Sim.{Sim}
 
 -- One operation of a device. What a length and a read give is known, so only that they are asked counts.
@@ -33,6 +33,11 @@ is_stopped Passed = false
 is_stopped Stopped = true
 is_stopped Wanted = false
 
+abbrev pub is_wanted : Ending → Bool
+is_wanted Passed = false
+is_wanted Stopped = false
+is_wanted Wanted = true
+
 -- whether a plan of faults falls on an operation
 abbrev pub falls_on : Plan → Op → Bool
 falls_on plan Asks = falls_on_len plan
@@ -51,11 +56,15 @@ op_failed Asks d = record { told = d.told; trouble = troubled len_failed d.troub
 op_failed Reads d = record { told = d.told; trouble = troubled read_failed d.trouble }
 op_failed (Does call) d = record { told = d.told; trouble = troubled change_failed d.trouble }
 
--- the disk after an operation, by how it ended; a want of memory is counted and changes nothing else
+-- once memory was wanting, which is counted and changes nothing else
+abbrev pub in_want : Sim → Sim
+in_want d = record { told = d.told; trouble = wanting d.trouble }
+
+-- the disk after an operation, by how it ended
 abbrev pub after_op : Op → Ending → Sim → Sim
 after_op op Passed d = op_passed op d
 after_op op Stopped d = op_failed op d
-after_op op Wanted d = record { told = d.told; trouble = wanting d.trouble }
+after_op op Wanted d = in_want d
 
 -- A disk that is one in memory goes by an operation: it fails exactly where the plan falls on it, and then the disk is what
 -- the operation makes of it.
@@ -65,6 +74,14 @@ pub record GoesAt (op : Op) (d : Sim) (now : Option Sim) (e : Ending) : Type 0 w
 
 abbrev pub Goes : Op → Option Sim → Option Sim → Ending → Type 0
 Goes op old now e = (d : Sim) → old ≡ Some d → GoesAt op d now e
+
+-- What an operation leaves, by how it ended: the disk holds what it tells as before, goes by the operation, and its counts of
+-- faults and of wants rise where it answers one, and nowhere else.
+pub record Did {T : Type 0} (op : Op) (h h' : Bool) (m m' : Option Sim) (f f' w w' : ℕ) (result : Result T Refused) : Type 0 where
+  pub honest : h' ≡ h
+  pub goes : Goes op m m' (ending result)
+  pub causes : Causes f f' result
+  pub wants : Wants w w' result
 
 -- the disk after some operations, and whether all of them passed
 pub record Ran : Type 0 where
@@ -87,12 +104,23 @@ changes_in (Asks ∷ ops) = changes_in ops
 changes_in (Reads ∷ ops) = changes_in ops
 changes_in (Does call ∷ ops) = call ∷ changes_in ops
 
--- The disk is what these operations make of it, by how they ended. Nothing is said where memory was wanting.
-abbrev pub Came : Ran → Option Sim → Ending → Type 0
-Came r now Passed = (r.done ≡ true) × (now ≡ Some r.disk)
-Came r now Stopped = (r.done ≡ false) × (now ≡ Some r.disk)
-Came r now Wanted = Unit {0}
+-- the disk is what was left, and all have passed or not
+abbrev pub Left : Ran → Option Sim → Bool → Type 0
+Left r now done = (r.done ≡ done) × (now ≡ Some r.disk)
+
+-- The first of some operations have passed and left the disk, and then memory was wanting. Where that was the disk's, it has
+-- counted it.
+pub record WantedIn (ops : List Op) (d : Sim) (now : Option Sim) : Type 0 where
+  pub count : ℕ
+  pub passed : (ran (take count ops) d).done ≡ true
+  pub disk : (now ≡ Some (ran (take count ops) d).disk) ⊎ (now ≡ Some (in_want (ran (take count ops) d).disk))
+
+-- the disk is what these operations make of it, by how they ended
+abbrev pub Came : List Op → Sim → Option Sim → Ending → Type 0
+Came ops d now Passed = Left (ran ops d) now true
+Came ops d now Stopped = Left (ran ops d) now false
+Came ops d now Wanted = WantedIn ops d now
 
 -- a disk that is one in memory goes by the operations that follow from what it told
 abbrev pub GoesBy : (Told → List Op) → Option Sim → Option Sim → Ending → Type 0
-GoesBy ops old now e = (d : Sim) → old ≡ Some d → Came (ran (ops d.told) d) now e
+GoesBy ops old now e = (d : Sim) → old ≡ Some d → Came (ops d.told) d now e

@@ -1,9 +1,9 @@
 //! The disk as the layers above see it.
 ghost use Rattle.std.specs.Prelude.{◌≡◌, ◌≤◌, ◌+◌, ℕ, Bool, Option, Some, [], ◌∷◌, length, OnOk, OnErr, IfOk};
 ghost use Rattle.disk_model.specs.Calls.{Told, Tells, followed, area_bytes};
-ghost use Rattle.disk_model.specs.Causes.{Causes, GivesBytes, Wants};
+ghost use Rattle.disk_model.specs.Causes.{GivesBytes};
 ghost use Rattle.disk_model.specs.declared.call.Call.TheVariants.{Write, Cut, Sync};
-ghost use Rattle.disk_model.specs.Running.{Asks, Does, Goes, Reads, ending};
+ghost use Rattle.disk_model.specs.Running.{Asks, Did, Does, Reads};
 ghost use Rattle.disk_model.specs.Sim.{Sim};
 
 use crate::{Area, Refused};
@@ -31,50 +31,35 @@ pub trait Disk {
     /// The length of an area.
     fn len(&mut self, area: Area) -> Result<u64, Refused>
         ensures told { told self.new ≡ told self.old }
-        ensures honest { honest self.new ≡ honest self.old }
         ensures length { (t : Told) → Tells (told self.old) (honest self.old) t → IfOk result (λ n. n ≡ length (area_bytes area t)) }
-        ensures goes { Goes Asks (memory self.old) (memory self.new) (ending result) }
-        ensures causes { Causes (faults self.old) (faults self.new) result }
-        ensures wants { Wants (wants self.old) (wants self.new) result };
+        ensures did { Did Asks (honest self.old) (honest self.new) (memory self.old) (memory self.new) (faults self.old) (faults self.new) (wants self.old) (wants self.new) result };
 
     /// Reads bytes of an area from a position on, and says how many: fewer than asked only at the area's end.
     fn read(&mut self, area: Area, at: u64, into: &mut [u8]) -> Result<usize, Refused>
         ensures told { told self.new ≡ told self.old }
-        ensures honest { honest self.new ≡ honest self.old }
         ensures within { IfOk result (λ n. n ≤ length into.new) }
         ensures bytes { (t : Told) → Tells (told self.old) (honest self.old) t → IfOk result (λ n. GivesBytes (area_bytes area t) at n into.new) }
-        ensures goes { Goes Reads (memory self.old) (memory self.new) (ending result) }
-        ensures causes { Causes (faults self.old) (faults self.new) result }
-        ensures wants { Wants (wants self.old) (wants self.new) result };
+        ensures did { Did Reads (honest self.old) (honest self.new) (memory self.old) (memory self.new) (faults self.old) (faults self.new) (wants self.old) (wants self.new) result };
 
     /// Writes over what is there from a position on, and past the area's end.
     fn write_at(&mut self, area: Area, at: u64, from: &[u8]) -> Result<(), Refused>
         requires { (t : Told) → Tells (told self.old) (honest self.old) t → at ≤ length (area_bytes area t) }
         ensures told { OnOk result (told self.new ≡ followed (told self.old) (Write area at from.now ∷ [])) }
         ensures untold { OnErr result (told self.new ≡ told self.old) }
-        ensures honest { honest self.new ≡ honest self.old }
-        ensures goes { Goes (Does (Write area at from.now)) (memory self.old) (memory self.new) (ending result) }
-        ensures causes { Causes (faults self.old) (faults self.new) result }
-        ensures wants { Wants (wants self.old) (wants self.new) result };
+        ensures did { Did (Does (Write area at from.now)) (honest self.old) (honest self.new) (memory self.old) (memory self.new) (faults self.old) (faults self.new) (wants self.old) (wants self.new) result };
 
     /// Cuts an area to a length.
     fn cut(&mut self, area: Area, len: u64) -> Result<(), Refused>
         requires { (t : Told) → Tells (told self.old) (honest self.old) t → len ≤ length (area_bytes area t) }
         ensures told { OnOk result (told self.new ≡ followed (told self.old) (Cut area len ∷ [])) }
         ensures untold { OnErr result (told self.new ≡ told self.old) }
-        ensures honest { honest self.new ≡ honest self.old }
-        ensures goes { Goes (Does (Cut area len)) (memory self.old) (memory self.new) (ending result) }
-        ensures causes { Causes (faults self.old) (faults self.new) result }
-        ensures wants { Wants (wants self.old) (wants self.new) result };
+        ensures did { Did (Does (Cut area len)) (honest self.old) (honest self.new) (memory self.old) (memory self.new) (faults self.old) (faults self.new) (wants self.old) (wants self.new) result };
 
     /// Keeps all that was written: a crash after it leaves what a read gives.
     fn sync(&mut self) -> Result<(), Refused>
         ensures told { OnOk result (told self.new ≡ followed (told self.old) (Sync ∷ [])) }
         ensures untold { OnErr result (told self.new ≡ told self.old) }
-        ensures honest { honest self.new ≡ honest self.old }
-        ensures goes { Goes (Does Sync) (memory self.old) (memory self.new) (ending result) }
-        ensures causes { Causes (faults self.old) (faults self.new) result }
-        ensures wants { Wants (wants self.old) (wants self.new) result };
+        ensures did { Did (Does Sync) (honest self.old) (honest self.new) (memory self.old) (memory self.new) (faults self.old) (faults self.new) (wants self.old) (wants self.new) result };
 
     /// What it tells is what the disk in memory holds.
     ghost tells: { (d : Self) (s : Sim) → memory d ≡ Some s → Tells (told d) (honest d) s.told };

@@ -8,6 +8,7 @@ mod crash;
 mod disk;
 mod octets;
 mod plan;
+pub mod rows;
 mod sim;
 mod undo;
 
@@ -18,6 +19,3 @@ pub use disk::Disk;
 pub use octets::Octets;
 pub use plan::{Plan, Trouble};
 pub use sim::SimDisk;
-
-#[cfg(test)]
-mod tests;

@@ -8,8 +8,10 @@ use Rattle.disk_model.specs.Calls.{Told, area_bytes, reads}
 use Rattle.disk_model.specs.Causes.{GivesBytes}
 use Rattle.disk_model.specs.declared.area.Refused.{Refused}
 use Rattle.disk_model.specs.declared.area.Refused.TheVariants.{Failed, Memory}
-use Rattle.disk_model.specs.Running.{Op, GoesBy, Passed, refused_ending}
-use Rattle.disk_model.specs.Sim.{Sim}
+use Rattle.disk_model.specs.declared.disk.Disk.{Ghosts}
+use Rattle.disk_model.specs.Running.{Op, Passed, refused_ending}
+use Rattle.disk_model.specs.Went.{WentBy}
+use Rattle.disk_model.proofs.Went.{went_ends}
 use Rattle.gate_area.specs.Operations.{survey_ops, survey_ending, spoilt_ending}
 use Rattle.disk_model.proofs.Reading.{reads-bytes}
 use Rattle.gate_area.specs.declared.looking.Look.{Look}
@@ -57,10 +59,10 @@ refused_fault Failed = refl
 refused_fault Memory = refl
 
 -- an operation of a survey was refused
-pub survey_refused : (ops : Told → List Op) (old now : Option Sim) (refused : Refused) (r : Result Standing SurveyFault) → IsErrAnd r (λ e. e ≡ fault_of refused)
-    → GoesBy ops old now (refused_ending refused) → GoesBy ops old now (survey_ending r)
-survey_refused ops old now refused (Ok x) is goes = absurd is
-survey_refused ops old now refused (Err e) is goes = subst (λ x. GoesBy ops old now x) (refused_fault refused ∙ sym (ap spoilt_ending is)) goes
+pub survey_refused : {D : Type 0} {disk : Ghosts D} {ops : Told → List Op} {old now : D} (refused : Refused) (r : Result Standing SurveyFault) → IsErrAnd r (λ e. e ≡ fault_of refused)
+    → WentBy disk ops old now (refused_ending refused) → WentBy disk ops old now (survey_ending r)
+survey_refused refused (Ok x) is went = absurd is
+survey_refused refused (Err e) is went = went_ends (refused_fault refused ∙ sym (ap spoilt_ending is)) went
 
 answer_passes : (pair : Pair) (n m : ℕ) (j : Result (Option (Area × ℕ)) (Area × ℕ)) → survey_ending (answer_at pair n m j) ≡ Passed
 answer_passes pair n m (Ok None) = refl
@@ -68,6 +70,6 @@ answer_passes pair n m (Ok (Some (area, generation))) = refl
 answer_passes pair n m (Err (area, at)) = refl
 
 -- all have passed where the areas were judged
-pub judged_goes : (pair : Pair) (n m : ℕ) (j : Result (Option (Area × ℕ)) (Area × ℕ)) (r : Result Standing SurveyFault) (old now : Option Sim) → r ≡ answer_at pair n m j
-    → GoesBy (λ t. survey_ops) old now Passed → GoesBy (λ t. survey_ops) old now (survey_ending r)
-judged_goes pair n m j r old now is goes = subst (λ x. GoesBy (λ t. survey_ops) old now x) (sym (ap survey_ending is ∙ answer_passes pair n m j)) goes
+pub judged_went : {D : Type 0} {disk : Ghosts D} {old now : D} (pair : Pair) (n m : ℕ) (j : Result (Option (Area × ℕ)) (Area × ℕ)) (r : Result Standing SurveyFault) → r ≡ answer_at pair n m j
+    → WentBy disk (λ t. survey_ops) old now Passed → WentBy disk (λ t. survey_ops) old now (survey_ending r)
+judged_went pair n m j r is went = went_ends (sym (ap survey_ending is ∙ answer_passes pair n m j)) went

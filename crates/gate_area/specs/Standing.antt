@@ -113,14 +113,6 @@ pub record IsLook (pair : Pair) (file : List ℕ) (look : Look) : Type 0 where
 abbrev pub Answers : Result Standing SurveyFault → Result Standing SurveyFault → Type 0
 Answers expected result = MatchResult result (λ s. expected ≡ Ok s) (λ fault. (fault ≡ Disk) ⊎ ((fault ≡ NoMemory) ⊎ (expected ≡ Err fault)))
 
--- `Disk` comes only where the count of faults rose
-pub record SurveyCauses (before now : ℕ) (result : Result Standing SurveyFault) : Type 0 where
-  pub later : before ≤ now
-  pub disk : IsErrOf result Disk → Rose before now
-  pub memory : IsErrOf result NoMemory → now ≡ before
-  pub damaged : (area : Area) (at : ℕ) → IsErrOf result (Damaged area at) → now ≡ before
-  pub kept : OnOk result (now ≡ before)
-
 -- `NoMemory` comes only where the count of wants rose: a survey takes no memory of its own
 pub record SurveyWants (before now : ℕ) (result : Result Standing SurveyFault) : Type 0 where
   pub later : before ≤ now

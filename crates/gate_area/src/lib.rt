@@ -13,6 +13,3 @@ pub use pair::{Head, Pair, Standing, SurveyFault, other};
 pub use reading::read_all;
 pub use renewing::renew;
 pub use steps::{found, open_gate, retire};
-
-#[cfg(test)]
-mod tests;

@@ -1,11 +1,12 @@
 //! What a pair of areas stands for.
 ghost use Rattle.std.specs.Prelude.{◌≡◌, ◌&&◌, nat_lt, take, [], ◌∷◌, IfOk};
 ghost use Rattle.disk_model.specs.Calls.{Told, Tells, area_bytes, reads};
-ghost use Rattle.disk_model.specs.Causes.{Causes, Wants};
-ghost use Rattle.disk_model.specs.Running.{Asks, GoesBy, Reads, ending};
+ghost use Rattle.disk_model.specs.Causes.{Wants};
+ghost use Rattle.disk_model.specs.Went.{WentBy};
+ghost use Rattle.disk_model.specs.Running.{Asks, Reads, ending};
 ghost use Rattle.gate_area.specs.declared.pair.Head.TheVariants.{Closed, Open};
 ghost use Rattle.gate_area.specs.Operations.{survey_ops, survey_ending};
-ghost use Rattle.gate_area.specs.Standing.{Answers, SurveyCauses, answer_of, head_in, judged, has_magic, has_version, generation_of, is_journal, IsLook, SurveyWants, answer_at};
+ghost use Rattle.gate_area.specs.Standing.{Answers, answer_of, head_in, judged, has_magic, has_version, generation_of, is_journal, IsLook, SurveyWants, answer_at};
 
 use crate::{Head, Pair, Standing, SurveyFault};
 use disk_model::{Area, Disk, Refused};
@@ -22,9 +23,7 @@ struct Look {
 pub fn survey<D: Disk>(disk: &mut D, pair: Pair) -> Result<Standing, SurveyFault>
     ensures answer { (t : Told) → Tells (D.told disk.old) (D.honest disk.old) t → Answers (answer_of pair (reads t)) result }
     ensures told { D.told disk.new ≡ D.told disk.old }
-    ensures honest { D.honest disk.new ≡ D.honest disk.old }
-    ensures goes { GoesBy (λ t. survey_ops) (D.memory disk.old) (D.memory disk.new) (survey_ending result) }
-    ensures causes { SurveyCauses (D.faults disk.old) (D.faults disk.new) result }
+    ensures went { WentBy D.Disk (λ t. survey_ops) disk.old disk.new (survey_ending result) }
     ensures wants { SurveyWants (D.wants disk.old) (D.wants disk.new) result }
 {
     let first = look_at(disk, pair, pair.first())?;
@@ -36,9 +35,7 @@ pub fn survey<D: Disk>(disk: &mut D, pair: Pair) -> Result<Standing, SurveyFault
 fn look_at<D: Disk>(disk: &mut D, pair: Pair, area: Area) -> Result<Look, Refused>
     ensures look { (t : Told) → Tells (D.told disk.old) (D.honest disk.old) t → IfOk result (IsLook pair (area_bytes area t)) }
     ensures told { D.told disk.new ≡ D.told disk.old }
-    ensures honest { D.honest disk.new ≡ D.honest disk.old }
-    ensures goes { GoesBy (λ t. Asks ∷ Reads ∷ []) (D.memory disk.old) (D.memory disk.new) (ending result) }
-    ensures causes { Causes (D.faults disk.old) (D.faults disk.new) result }
+    ensures went { WentBy D.Disk (λ t. Asks ∷ Reads ∷ []) disk.old disk.new (ending result) }
     ensures wants { Wants (D.wants disk.old) (D.wants disk.new) result }
 {
     let len = disk.len(area)?;

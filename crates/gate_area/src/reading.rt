@@ -1,8 +1,8 @@
 //! All bytes of an area.
 ghost use Rattle.std.specs.Prelude.{◌≡◌, ◌≤◌, length, IfOk};
 ghost use Rattle.disk_model.specs.Calls.{Told, Tells, area_bytes};
-ghost use Rattle.disk_model.specs.Causes.{Causes};
-ghost use Rattle.disk_model.specs.Running.{GoesBy, ending};
+ghost use Rattle.disk_model.specs.Went.{WentBy};
+ghost use Rattle.disk_model.specs.Running.{ending};
 ghost use Rattle.gate_area.specs.Operations.{area_readings};
 
 use disk_model::{Area, Disk, Refused};
@@ -15,10 +15,7 @@ const PAGE: usize = 65_536;
 pub fn read_all<D: Disk>(alloc: Global, disk: &mut D, area: Area) -> Result<Vec<u8>, Refused>
     ensures bytes { (t : Told) → Tells (D.told disk.old) (D.honest disk.old) t → IfOk result (λ bytes. bytes.items ≡ area_bytes area t) }
     ensures told { D.told disk.new ≡ D.told disk.old }
-    ensures honest { D.honest disk.new ≡ D.honest disk.old }
-    ensures goes { GoesBy (area_readings area) (D.memory disk.old) (D.memory disk.new) (ending result) }
-    ensures causes { Causes (D.faults disk.old) (D.faults disk.new) result }
-    ensures wants { D.wants disk.old ≤ D.wants disk.new }
+    ensures went { WentBy D.Disk (area_readings area) disk.old disk.new (ending result) }
 {
     let mut page = new_page(alloc, PAGE)?;
     let mut bytes = Vec::new(alloc);

@@ -1,8 +1,9 @@
 //! An area that gets a new content, whole or not at all.
 ghost use Rattle.std.specs.Prelude.{◌≡◌, ◌≤◌, length, OnOk};
-ghost use Rattle.disk_model.specs.Calls.{Told, Tells, Makes, MakesFirst, LeavesOnly, IsSettled, reads};
-ghost use Rattle.disk_model.specs.Causes.{Causes, Wants};
-ghost use Rattle.disk_model.specs.Running.{GoesBy, ending};
+ghost use Rattle.disk_model.specs.Calls.{Told, Tells, LeavesOnly, IsSettled, reads};
+ghost use Rattle.disk_model.specs.Causes.{Wants};
+ghost use Rattle.disk_model.specs.Went.{WentBy};
+ghost use Rattle.disk_model.specs.Running.{ending};
 ghost use Rattle.gate_area.specs.Gate.{renew_calls, RenewLeaves};
 ghost use Rattle.gate_area.specs.Operations.{renew_ops};
 
@@ -15,14 +16,10 @@ use disk_model::{Area, Disk, Refused};
 pub fn renew<D: Disk>(disk: &mut D, area: Area, body: &[u8]) -> Result<(), Refused>
     requires settled { (t : Told) → Tells (D.told disk.old) (D.honest disk.old) t → IsSettled t }
     requires body { 16 ≤ length body.now }
-    ensures calls { OnOk result (Makes (D.honest disk.old) (D.told disk.old) (D.told disk.new) (renew_calls area body.now)) }
-    ensures some { MakesFirst (D.honest disk.old) (D.told disk.old) (D.told disk.new) (renew_calls area body.now) }
     ensures moments { (t : Told) → Tells (D.told disk.old) (D.honest disk.old) t →
         LeavesOnly t (D.told disk.new) (RenewLeaves area body.now (reads t)) }
     ensures done { (t : Told) → Tells (D.told disk.new) (D.honest disk.new) t → OnOk result (IsSettled t) }
-    ensures honest { D.honest disk.new ≡ D.honest disk.old }
-    ensures goes { GoesBy (renew_ops area body.now) (D.memory disk.old) (D.memory disk.new) (ending result) }
-    ensures causes { Causes (D.faults disk.old) (D.faults disk.new) result }
+    ensures went { WentBy D.Disk (renew_ops area body.now) disk.old disk.new (ending result) }
     ensures wants { Wants (D.wants disk.old) (D.wants disk.new) result }
 {
     retire(disk, area)?;

@@ -1,8 +1,9 @@
 //! Closing and opening the gate of an area.
 ghost use Rattle.std.specs.Prelude.{◌≡◌, ◌≤◌, ◌<◌, ◌-◌, ◌^◌, length, OnOk};
-ghost use Rattle.disk_model.specs.Calls.{Told, Tells, Makes, MakesFirst, LeavesOnly, IsSettled, and_then, area_bytes, reads};
-ghost use Rattle.disk_model.specs.Causes.{Causes, Wants};
-ghost use Rattle.disk_model.specs.Running.{GoesBy, ending};
+ghost use Rattle.disk_model.specs.Calls.{Told, Tells, LeavesOnly, IsSettled, and_then, area_bytes, reads};
+ghost use Rattle.disk_model.specs.Causes.{Wants};
+ghost use Rattle.disk_model.specs.Went.{WentBy};
+ghost use Rattle.disk_model.specs.Running.{ending};
 ghost use Rattle.gate_area.specs.Gate.{IsRetired, retire_calls, gate_calls, RetireLeaves, FoundLeaves};
 ghost use Rattle.gate_area.specs.Operations.{retire_ops, gate_ops};
 
@@ -13,15 +14,11 @@ use disk_model::{Area, Disk, Refused};
 /// as they were, and the pair of this one stands for what it stood for or for what it stands for afterwards.
 pub fn retire<D: Disk>(disk: &mut D, area: Area) -> Result<(), Refused>
     requires settled { (t : Told) → Tells (D.told disk.old) (D.honest disk.old) t → IsSettled t }
-    ensures calls { OnOk result (Makes (D.honest disk.old) (D.told disk.old) (D.told disk.new) (retire_calls area)) }
-    ensures some { MakesFirst (D.honest disk.old) (D.told disk.old) (D.told disk.new) (retire_calls area) }
     ensures moments { (t : Told) → Tells (D.told disk.old) (D.honest disk.old) t →
         LeavesOnly t (D.told disk.new) (RetireLeaves area (reads t) (reads (and_then t (retire_calls area t)))) }
     ensures done { (t : Told) → Tells (D.told disk.new) (D.honest disk.new) t → OnOk result (IsSettled t) }
     ensures retired { (t : Told) → Tells (D.told disk.new) (D.honest disk.new) t → OnOk result (IsRetired (area_bytes area t)) }
-    ensures honest { D.honest disk.new ≡ D.honest disk.old }
-    ensures goes { GoesBy (retire_ops area) (D.memory disk.old) (D.memory disk.new) (ending result) }
-    ensures causes { Causes (D.faults disk.old) (D.faults disk.new) result }
+    ensures went { WentBy D.Disk (retire_ops area) disk.old disk.new (ending result) }
     ensures wants { Wants (D.wants disk.old) (D.wants disk.new) result }
 {
     cut_and_close(disk, area)
@@ -29,11 +26,7 @@ pub fn retire<D: Disk>(disk: &mut D, area: Area) -> Result<(), Refused>
 
 // The calls of it.
 fn cut_and_close<D: Disk>(disk: &mut D, area: Area) -> Result<(), Refused>
-    ensures calls { OnOk result (Makes (D.honest disk.old) (D.told disk.old) (D.told disk.new) (retire_calls area)) }
-    ensures some { MakesFirst (D.honest disk.old) (D.told disk.old) (D.told disk.new) (retire_calls area) }
-    ensures honest { D.honest disk.new ≡ D.honest disk.old }
-    ensures goes { GoesBy (retire_ops area) (D.memory disk.old) (D.memory disk.new) (ending result) }
-    ensures causes { Causes (D.faults disk.old) (D.faults disk.new) result }
+    ensures went { WentBy D.Disk (retire_ops area) disk.old disk.new (ending result) }
     ensures wants { Wants (D.wants disk.old) (D.wants disk.new) result }
 {
     let len = disk.len(area)?;
@@ -48,11 +41,7 @@ fn cut_and_close<D: Disk>(disk: &mut D, area: Area) -> Result<(), Refused>
 pub fn open_gate<D: Disk>(disk: &mut D, area: Area, gate: u64, body: &[u8]) -> Result<(), Refused>
     requires place { (t : Told) → Tells (D.told disk.old) (D.honest disk.old) t → gate < length (area_bytes area t) }
     requires room { gate < 2 ^ 64 - 1 }
-    ensures calls { OnOk result (Makes (D.honest disk.old) (D.told disk.old) (D.told disk.new) (λ t. gate_calls area gate body.now)) }
-    ensures some { MakesFirst (D.honest disk.old) (D.told disk.old) (D.told disk.new) (λ t. gate_calls area gate body.now) }
-    ensures honest { D.honest disk.new ≡ D.honest disk.old }
-    ensures goes { GoesBy (λ t. gate_ops area gate body.now) (D.memory disk.old) (D.memory disk.new) (ending result) }
-    ensures causes { Causes (D.faults disk.old) (D.faults disk.new) result }
+    ensures went { WentBy D.Disk (λ t. gate_ops area gate body.now) disk.old disk.new (ending result) }
     ensures wants { Wants (D.wants disk.old) (D.wants disk.new) result }
 {
     disk.write_at(area, gate + 1, body)?;
@@ -70,14 +59,10 @@ pub fn found<D: Disk>(disk: &mut D, area: Area, body: &[u8]) -> Result<(), Refus
     requires settled { (t : Told) → Tells (D.told disk.old) (D.honest disk.old) t → IsSettled t }
     requires body { 16 ≤ length body.now }
     requires retired { (t : Told) → Tells (D.told disk.old) (D.honest disk.old) t → IsRetired (area_bytes area t) }
-    ensures calls { OnOk result (Makes (D.honest disk.old) (D.told disk.old) (D.told disk.new) (λ t. gate_calls area 0 body.now)) }
-    ensures some { MakesFirst (D.honest disk.old) (D.told disk.old) (D.told disk.new) (λ t. gate_calls area 0 body.now) }
     ensures moments { (t : Told) → Tells (D.told disk.old) (D.honest disk.old) t →
         LeavesOnly t (D.told disk.new) (FoundLeaves area body.now (reads t) (reads (and_then t (gate_calls area 0 body.now)))) }
     ensures done { (t : Told) → Tells (D.told disk.new) (D.honest disk.new) t → OnOk result (IsSettled t) }
-    ensures honest { D.honest disk.new ≡ D.honest disk.old }
-    ensures goes { GoesBy (λ t. gate_ops area 0 body.now) (D.memory disk.old) (D.memory disk.new) (ending result) }
-    ensures causes { Causes (D.faults disk.old) (D.faults disk.new) result }
+    ensures went { WentBy D.Disk (λ t. gate_ops area 0 body.now) disk.old disk.new (ending result) }
     ensures wants { Wants (D.wants disk.old) (D.wants disk.new) result }
 {
     open_gate(disk, area, 0, body)

@@ -7,15 +7,17 @@ use Rattle.disk_model.specs.declared.area.Refused.{Refused}
 use Rattle.disk_model.specs.declared.area.Refused.TheVariants.{Failed, Memory as Wanting}
 use Rattle.disk_model.specs.declared.areas.Areas.{Areas}
 use Rattle.disk_model.specs.Areas.{bytes_of}
+use Rattle.disk_model.specs.Running.{Passed}
 use Rattle.gate_area.specs.declared.pair.Pair.TheVariants.{Journal}
 use Rattle.gate_area.specs.declared.pair.Standing.TheVariants.{None as Fresh, At}
 use Rattle.gate_area.specs.declared.pair.SurveyFault.{SurveyFault}
 use Rattle.gate_area.specs.declared.pair.SurveyFault.TheVariants.{Disk as NoDisk, Damaged as Spoilt, Memory as NoMemory}
-use Rattle.gate_area.specs.Standing.{answer_at, answer_of, Answers, SurveyCauses, stands}
+use Rattle.gate_area.specs.Standing.{answer_at, answer_of, Answers, stands}
 use Rattle.gate_log.specs.declared.fault.LogFault.{LogFault}
 use Rattle.gate_log.specs.declared.fault.LogFault.TheVariants.{Disk, Full, Memory}
 use Rattle.gate_log.specs.Journal.{Log, Holds, IsFound, log_of, records_of, records_in}
-use Rattle.gate_log.specs.Moments.{IsWant, Finds, LogCauses, refused_as, surveyed_as}
+use Rattle.gate_log.specs.Moments.{IsWant, Finds, refused_as, surveyed_as}
+use Rattle.gate_log.specs.Operations.{log_ending}
 use Rattle.gate_log.specs.Records.{StandsFor}
 use Rattle.gate_log.proofs.Moves.{Judgement, e_area}
 
@@ -101,6 +103,11 @@ pub always_ok : {T E : Type 0} {P : Type 0} (r : Result T E) → P → OnOk r P
 always_ok (Ok x) p = p
 always_ok (Err e) p = tt
 
+-- what is well has passed
+pub log_passed : {T : Type 0} (r : Result T LogFault) → OnOk r (log_ending r ≡ Passed)
+log_passed (Ok x) = refl
+log_passed (Err e) = tt
+
 refused_want : (f : Refused) → IsWant (refused_as f)
 refused_want Failed = inl refl
 refused_want Wanting = inr refl
@@ -112,37 +119,6 @@ finds_refused listed expected f r same = finds_want listed expected r (wants r s
     wants : {T : Type 0} (r : Result T LogFault) → MatchResult r (λ x. ⊥) (λ e. e ≡ refused_as f) → MatchResult r (λ x. ⊥) IsWant
     wants (Ok x) same = absurd same
     wants (Err e) same = subst IsWant (sym same) (refused_want f)
-
-causes_of : {T : Type 0} (before now : ℕ) (f : SurveyFault) → SurveyCauses before now (Err f) → LogCauses {T = T} before now (Err (surveyed_as f))
-causes_of before now NoDisk causes = record {
-  later = causes.later;
-  disk = λ is. causes.disk refl;
-  memory = λ is. absurd cc;
-  damaged = λ area at is. absurd cc;
-  full = λ len is. absurd cc;
-  kept = tt;
-}
-causes_of before now (Spoilt area at) causes = record {
-  later = causes.later;
-  disk = λ is. absurd cc;
-  memory = λ is. causes.damaged area at refl;
-  damaged = λ b n is. causes.damaged area at refl;
-  full = λ len is. causes.damaged area at refl;
-  kept = tt;
-}
-causes_of before now NoMemory causes = record {
-  later = causes.later;
-  disk = λ is. absurd cc;
-  memory = λ is. causes.memory refl;
-  damaged = λ b n is. causes.memory refl;
-  full = λ len is. causes.memory refl;
-  kept = tt;
-}
-
--- the causes of a survey's fault are those of the log's
-pub causes_fault : {T : Type 0} (before now : ℕ) (f : SurveyFault) (r : Result T LogFault) → SurveyCauses before now (Err f) → MatchResult r (λ x. ⊥) (λ e. e ≡ surveyed_as f) → LogCauses before now r
-causes_fault before now f (Ok x) causes same = absurd same
-causes_fault {T} before now f (Err e) causes same = subst (λ e. LogCauses {T = T} before now (Err e)) (sym same) (causes_of before now f causes)
 
 abbrev pub Opened : Type 0
 Opened = Log × Vec (List ℕ) Global

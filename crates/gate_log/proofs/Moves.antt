@@ -6,7 +6,7 @@ use Rattle.disk_model.specs.declared.area.Area.TheVariants.{Journal0, Journal1, 
 use Rattle.disk_model.specs.declared.areas.Areas.{Areas}
 use Rattle.disk_model.specs.declared.call.Call.{Call}
 use Rattle.disk_model.specs.Areas.{bytes_of, same}
-use Rattle.disk_model.specs.Calls.{Told, Tells, Makes, made_by, and_then, area_bytes, reads, kept, IsImage, IsSettled}
+use Rattle.disk_model.specs.Calls.{Told, and_then, area_bytes, reads, kept, IsImage, IsSettled}
 use Rattle.disk_model.specs.Steps.{CanLeave, after}
 use Rattle.disk_model.proofs.CrashLaws.{new_can}
 use Rattle.disk_model.proofs.OnArea.{own-on, image-on, image-other}
@@ -14,11 +14,11 @@ use Rattle.disk_model.proofs.Reading.{area_bytes-and_then, reads-bytes, reading-
 use Rattle.gate_area.specs.declared.pair.Pair.TheVariants.{Journal}
 use Rattle.gate_area.specs.declared.pair.Head.{Head}
 use Rattle.gate_area.specs.declared.pair.Head.TheVariants.{Closed, Spoilt, Open}
-use Rattle.gate_area.specs.Gate.{gate_steps, opened, OpenOrShut, OthersStay}
+use Rattle.gate_area.specs.Gate.{gate_calls, gate_steps, opened, OpenOrShut, OthersStay}
 use Rattle.gate_area.specs.Standing.{judged, stands, head_of}
 use Rattle.gate_area.proofs.Moments.{found_file}
 use Rattle.gate_area.proofs.Phases.{reads_image}
-use Rattle.gate_log.specs.Journal.{Log, Holds, in_area, records_of, records_in, append_calls, appended}
+use Rattle.gate_log.specs.Journal.{Log, Holds, in_area, records_of, records_in, appended}
 use Rattle.gate_log.specs.Moments.{ChecksStay, OldOrNew}
 use Rattle.gate_log.specs.Records.{gate_of, base_of, behind_gate, IsShort, StandsFor}
 use Rattle.gate_log.proofs.Appends.{shut_stands, opened_stands, opened_front, end-more, base-more}
@@ -114,6 +114,10 @@ log_leaves log records r before image short holds others (inr all) =
 pub gate-log : (log : Log) (records : List (List ℕ)) (areas : Areas) → Holds log records areas → log.end - 1 ≡ gate_of records
 gate-log log records areas holds = omega (arith, holds.end)
 
+-- the calls of an append that has room
+abbrev pub append_calls : Log → List ℕ → List Call
+append_calls log r = gate_calls log.area (log.end - 1) (behind_gate r)
+
 -- at each moment of an append
 pub append_leaves : (t : Told) (log : Log) (records : List (List ℕ)) (r : List ℕ) → IsShort r → IsSettled t → Holds log records (reads t)
     → (i : ℕ) (image : Areas) → IsImage (and_then t (take i (append_calls log r))) image → OldOrNew records (records ++ r ∷ []) (reads t) image
@@ -130,12 +134,6 @@ append_leaves t log records r short settled holds i image is =
     log_leaves log records r (reads t) image short holds others
     (subst (λ n. OpenOrShut n (behind_gate r) (bytes_of log.area (reads t)) (bytes_of log.area image)) at
     (subst (λ (f : List ℕ). OpenOrShut gate (behind_gate r) f (bytes_of log.area image)) (sym same_file) file))
-
--- what reads give is an image
--- what is told after all of some calls
-pub after_all : (honest : Bool) (old now : Option Told) (calls : Told → List Call) (t u : Told) → Makes honest old now calls → Tells old honest t → now ≡ Some u → u ≡ and_then t (calls t)
-after_all honest old now calls t u makes tells is =
-    let e : Some u ≡ Some (and_then t (calls t)) = sym is ∙ makes tells.honest ∙ ap (made_by calls) tells.told in cc
 
 -- the log with a record more is what the disk then holds
 pub append_holds : (t : Told) (log : Log) (records : List (List ℕ)) (r : List ℕ) → IsShort r → IsSettled t → Holds log records (reads t)

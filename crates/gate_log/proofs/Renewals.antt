@@ -29,7 +29,8 @@ use Rattle.gate_log.specs.Records.{u32_bytes, u64_bytes, opened_record, all_open
 use Rattle.gate_area.proofs.Renewals.{opened_is}
 use Rattle.gate_log.proofs.Fronts.{SameFront, same_head, front_stays, heads}
 use Rattle.gate_log.proofs.Moves.{records_are, checks_stay, standing_area, Judgement, stood, spoilt, e_fault, e_area}
-use Rattle.gate_area.proofs.Phases.{and_then-and_then, reads_image}
+use Rattle.disk_model.proofs.Went.{and_then-and_then}
+use Rattle.gate_area.proofs.Phases.{reads_image}
 use Rattle.gate_log.proofs.Spelling.{length-opened}
 
 -- ---- the bytes that an area is founded with

@@ -3,12 +3,9 @@ use Rattle.std.specs.Prelude.{◌≡◌, ◌+◌, ◌-◌, ℕ, List, [], ◌∷
 use Rattle.disk_model.specs.declared.area.Area.{Area}
 use Rattle.disk_model.specs.declared.area.Area.TheVariants.{Journal0, Journal1, Check2, Check3}
 use Rattle.disk_model.specs.declared.areas.Areas.{Areas}
-use Rattle.disk_model.specs.declared.call.Call.{Call}
-use Rattle.disk_model.specs.declared.call.Call.TheVariants.{Sync}
 use Rattle.disk_model.specs.Areas.{bytes_of}
 use Rattle.disk_model.specs.Calls.{Told, reads, IsSettled}
 use Rattle.gate_area.specs.declared.pair.Pair.TheVariants.{Journal}
-use Rattle.gate_area.specs.Gate.{gate_calls, renew_calls}
 use Rattle.gate_area.specs.Standing.{stands, other_of}
 use Rattle.gate_log.specs.Records.{StandsFor, walk_of, end_of, base_of, behind_gate, area_body}
 
@@ -46,27 +43,6 @@ pub record Holds (log : Log) (records : List (List ℕ)) (areas : Areas) : Type 
 -- the areas stand for some records, and the log knows where
 abbrev pub IsLogOf : Log → Areas → Type 0
 IsLogOf log areas = (records : List (List ℕ)) × Holds log records areas
-
--- a record is written behind the closed gate, which is then opened
-abbrev pub append_calls : Log → List ℕ → List Call
-append_calls log r = gate_calls log.area (log.end - 1) (behind_gate r)
-
--- the other area is founded with one record and the next generation
-abbrev pub compact_calls : Log → List ℕ → Told → List Call
-compact_calls log r = renew_calls (other_of log.area) (area_body (log.generation + 1) (r ∷ []))
-
--- a fresh pair gets a journal without records; nothing is done where one stands or a byte can't be there
-abbrev pub begin_calls : Result (Option (Area × ℕ)) (Area × ℕ) → Told → List Call
-begin_calls (Ok None) t = renew_calls Journal0 (area_body 1 []) t
-begin_calls (Ok (Some standing)) t = []
-begin_calls (Err spot) t = []
-
-abbrev pub find_calls : Told → List Call
-find_calls t = begin_calls (stands Journal (reads t)) t
-
--- after a sync
-abbrev pub open_calls : Told → List Call
-open_calls t = Sync ∷ find_calls t
 
 -- the log with one record more
 abbrev pub appended : Log → List ℕ → Log

@@ -43,15 +43,6 @@ surveyed_as NoDisk = Disk
 surveyed_as (Spoilt area at) = Damaged area at
 surveyed_as NoMemory = Memory
 
--- `Disk` comes only where the count of faults rose, and nothing else raises it
-pub record LogCauses {T : Type 0} (before now : ℕ) (result : Result T LogFault) : Type 0 where
-  pub later : before ≤ now
-  pub disk : IsErrOf result Disk → Rose before now
-  pub memory : IsErrOf result Memory → now ≡ before
-  pub damaged : (area : Area) (at : ℕ) → IsErrOf result (Damaged area at) → now ≡ before
-  pub full : (len : ℕ) → IsErrOf result (Full len) → now ≡ before
-  pub kept : OnOk result (now ≡ before)
-
 -- `Memory` comes only where the count of wants rose: the call takes no memory of its own
 pub record LogWants {T : Type 0} (before now : ℕ) (result : Result T LogFault) : Type 0 where
   pub later : before ≤ now

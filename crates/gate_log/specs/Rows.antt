@@ -3,7 +3,9 @@ use Rattle.std.specs.Prelude.{List, [], ◌∷◌, ℕ}
 use Rattle.disk_model.specs.declared.area.Area.TheVariants.{Journal0}
 use Rattle.disk_model.specs.declared.call.Call.{Call}
 use Rattle.disk_model.specs.Calls.{Told, begun}
-use Rattle.gate_log.specs.Journal.{Log, log_of, append_calls, compact_calls}
+use Rattle.disk_model.specs.Running.{changes_in}
+use Rattle.gate_log.specs.Journal.{Log, log_of}
+use Rattle.gate_log.specs.Operations.{append_ops, compact_ops}
 use Rattle.gate_log.specs.Records.{area_body}
 
 -- a disk whose first area has these records, and its log
@@ -21,8 +23,8 @@ de = 0x64 ∷ 0x65 ∷ []
 
 -- `abc` is added to no record
 abbrev pub appends : List Call
-appends = append_calls (log_with []) abc
+appends = changes_in (append_ops (log_with []) abc)
 
 -- `de` takes the place of `abc`
 abbrev pub compacts : List Call
-compacts = compact_calls (log_with (abc ∷ [])) de (holding (abc ∷ []))
+compacts = changes_in (compact_ops (log_with (abc ∷ [])) de (holding (abc ∷ [])))

@@ -1,14 +1,13 @@
 //! A log of records on a disk.
 ghost use Rattle.std.specs.Prelude.{◌≡◌, ◌==◌, if◌then◌else◌, ◌≤◌, ◌<◌, ◌+◌, ◌-◌, ◌^◌, ◌++◌, ◌↔◌, ℕ, List, [], ◌∷◌, length, OnOk, IfOk, IsErrOf, MatchResult, Ok, None, Some};
-ghost use Rattle.disk_model.specs.Calls.{Told, Tells, Makes, MakesFirst, LeavesOnly, IsSettled, area_bytes, reads};
-ghost use Rattle.disk_model.specs.Running.{GoesBy};
+ghost use Rattle.disk_model.specs.Calls.{Told, Tells, LeavesOnly, IsSettled, area_bytes, reads};
+ghost use Rattle.disk_model.specs.Went.{WentBy};
 ghost use Rattle.disk_model.specs.declared.area.Area.{Area};
 ghost use Rattle.disk_model.specs.declared.area.Area.TheVariants.{Journal0};
 ghost use Rattle.gate_area.specs.Standing.{stands, other_of};
 ghost use Rattle.gate_area.specs.declared.pair.Pair.TheVariants.{Journal};
-ghost use Rattle.gate_log.specs.Journal.{Holds, IsFound, IsLogOf, append_calls, appended, compact_calls, compacted, find_calls, in_area, log_of, open_calls, records_in};
-ghost use Rattle.gate_area.specs.Gate.{renew_calls};
-ghost use Rattle.gate_log.specs.Moments.{Finds, IsWant, LogCauses, LogWants, OldOrNew, SameRecords, SinceSync};
+ghost use Rattle.gate_log.specs.Journal.{Holds, IsFound, IsLogOf, appended, compacted, in_area, log_of, records_in};
+ghost use Rattle.gate_log.specs.Moments.{Finds, IsWant, LogWants, OldOrNew, SameRecords, SinceSync};
 ghost use Rattle.gate_log.specs.Operations.{append_ops, compact_ops, find_ops, log_ending, open_ops};
 ghost use Rattle.gate_area.specs.Operations.{area_readings, renew_ops};
 ghost use Rattle.gate_log.specs.Records.{StandsFor, area_body, base_of, walk_of, end_of};
@@ -82,16 +81,11 @@ impl GateLog {
         ensures finds { (t : Told) → Tells (D.told disk.old) (D.honest disk.old) t → Finds (λ opened. opened.1.items) (records_in (reads t)) result }
         ensures log { (t : Told) → Tells (D.told disk.old) (D.honest disk.old) t → IfOk result (λ opened. IsFound limit opened.1.items (stands Journal (reads t)) opened.0) }
         ensures full { (len : ℕ) → IsErrOf result (Full len) → ⊥ }
-        ensures calls { OnOk result (Makes (D.honest disk.old) (D.told disk.old) (D.told disk.new) open_calls) }
-        ensures some { MakesFirst (D.honest disk.old) (D.told disk.old) (D.told disk.new) open_calls }
         ensures moments { (t : Told) → Tells (D.told disk.old) (D.honest disk.old) t → SinceSync t (D.told disk.new) (SameRecords (reads t)) }
         ensures holds { (u : Told) → Tells (D.told disk.new) (D.honest disk.new) u → IfOk result (λ opened. Holds opened.0 opened.1.items (reads u)) }
         ensures stands { (u : Told) → Tells (D.told disk.new) (D.honest disk.new) u → IfOk result (λ opened. IsLogOf opened.0 (reads u)) }
         ensures done { (u : Told) → Tells (D.told disk.new) (D.honest disk.new) u → OnOk result (IsSettled u) }
-        ensures honest { D.honest disk.new ≡ D.honest disk.old }
-        ensures goes { GoesBy open_ops (D.memory disk.old) (D.memory disk.new) (log_ending result) }
-        ensures causes { LogCauses (D.faults disk.old) (D.faults disk.new) result }
-        ensures wants { D.wants disk.old ≤ D.wants disk.new }
+        ensures went { WentBy D.Disk open_ops disk.old disk.new (log_ending result) }
     {
         disk.sync()?; // nothing is pending
         find(alloc, disk, limit)
@@ -109,8 +103,6 @@ impl GateLog {
         requires generation { self.generation < 2 ^ 64 - 1 }
         requires settled { (t : Told) → Tells (D.told disk.old) (D.honest disk.old) t → IsSettled t }
         requires log { (t : Told) → Tells (D.told disk.old) (D.honest disk.old) t → IsLogOf self (reads t) }
-        ensures calls { OnOk result (Makes (D.honest disk.old) (D.told disk.old) (D.told disk.new) (compact_calls self body.now)) }
-        ensures some { MakesFirst (D.honest disk.old) (D.told disk.old) (D.told disk.new) (compact_calls self body.now) }
         ensures full { (len : ℕ) → IsErrOf result (Full len) ↔ (len ≡ 22 + length body.now) × (self.limit < len) }
         ensures undamaged { (area : Area) (at : ℕ) → IsErrOf result (Damaged area at) → ⊥ }
         ensures idle { self.limit < 22 + length body.now → disk.new ≡ disk.old }
@@ -121,10 +113,7 @@ impl GateLog {
             Holds self records (reads t) → IfOk result (λ log. Holds log (body.now ∷ []) (reads u)) }
         ensures stands { (u : Told) → Tells (D.told disk.new) (D.honest disk.new) u → IfOk result (λ log. IsLogOf log (reads u)) }
         ensures done { (u : Told) → Tells (D.told disk.new) (D.honest disk.new) u → OnOk result (IsSettled u) }
-        ensures honest { D.honest disk.new ≡ D.honest disk.old }
-        ensures goes { GoesBy (compact_ops self body.now) (D.memory disk.old) (D.memory disk.new) (log_ending result) }
-        ensures causes { LogCauses (D.faults disk.old) (D.faults disk.new) result }
-        ensures wants { D.wants disk.old ≤ D.wants disk.new }
+        ensures went { WentBy D.Disk (compact_ops self body.now) disk.old disk.new (log_ending result) }
     {
         let end = 17 + body.room();
         if self.limit < end {
@@ -149,8 +138,6 @@ impl GateLog {
     pub fn append<D: Disk>(self, disk: &mut D, body: &Body) -> Result<GateLog, LogFault>
         requires settled { (t : Told) → Tells (D.told disk.old) (D.honest disk.old) t → IsSettled t }
         requires log { (t : Told) → Tells (D.told disk.old) (D.honest disk.old) t → IsLogOf self (reads t) }
-        ensures calls { OnOk result (Makes (D.honest disk.old) (D.told disk.old) (D.told disk.new) (λ t. append_calls self body.now)) }
-        ensures some { MakesFirst (D.honest disk.old) (D.told disk.old) (D.told disk.new) (λ t. append_calls self body.now) }
         ensures full { (len : ℕ) → IsErrOf result (Full len) ↔ (len ≡ self.end + (5 + length body.now)) × (self.limit < len) }
         ensures undamaged { (area : Area) (at : ℕ) → IsErrOf result (Damaged area at) → ⊥ }
         ensures idle { self.limit < self.end + (5 + length body.now) → disk.new ≡ disk.old }
@@ -161,9 +148,7 @@ impl GateLog {
             Holds self records (reads t) → IfOk result (λ log. Holds log (records ++ body.now ∷ []) (reads u)) }
         ensures stands { (u : Told) → Tells (D.told disk.new) (D.honest disk.new) u → IfOk result (λ log. IsLogOf log (reads u)) }
         ensures done { (u : Told) → Tells (D.told disk.new) (D.honest disk.new) u → OnOk result (IsSettled u) }
-        ensures honest { D.honest disk.new ≡ D.honest disk.old }
-        ensures goes { GoesBy (λ t. append_ops self body.now) (D.memory disk.old) (D.memory disk.new) (log_ending result) }
-        ensures causes { LogCauses (D.faults disk.old) (D.faults disk.new) result }
+        ensures went { WentBy D.Disk (λ t. append_ops self body.now) disk.old disk.new (log_ending result) }
         ensures wants { LogWants (D.wants disk.old) (D.wants disk.new) result }
     {
         let end = self.end + body.room();
@@ -208,15 +193,10 @@ fn find<D: Disk>(
     ensures finds { (t : Told) → Tells (D.told disk.old) (D.honest disk.old) t → Finds (λ opened. opened.1.items) (records_in (reads t)) result }
     ensures log { (t : Told) → Tells (D.told disk.old) (D.honest disk.old) t → IfOk result (λ opened. IsFound limit opened.1.items (stands Journal (reads t)) opened.0) }
     ensures full { (len : ℕ) → IsErrOf result (Full len) → ⊥ }
-    ensures calls { OnOk result (Makes (D.honest disk.old) (D.told disk.old) (D.told disk.new) find_calls) }
-    ensures some { MakesFirst (D.honest disk.old) (D.told disk.old) (D.told disk.new) find_calls }
     ensures moments { (t : Told) → Tells (D.told disk.old) (D.honest disk.old) t → LeavesOnly t (D.told disk.new) (SameRecords (reads t)) }
     ensures holds { (t u : Told) → Tells (D.told disk.old) (D.honest disk.old) t → Tells (D.told disk.new) (D.honest disk.new) u → IfOk result (λ opened. Holds opened.0 opened.1.items (reads u)) }
     ensures done { (u : Told) → Tells (D.told disk.new) (D.honest disk.new) u → OnOk result (IsSettled u) }
-    ensures honest { D.honest disk.new ≡ D.honest disk.old }
-    ensures goes { GoesBy find_ops (D.memory disk.old) (D.memory disk.new) (log_ending result) }
-    ensures causes { LogCauses (D.faults disk.old) (D.faults disk.new) result }
-    ensures wants { D.wants disk.old ≤ D.wants disk.new }
+    ensures went { WentBy D.Disk find_ops disk.old disk.new (log_ending result) }
 {
     match survey(disk, Pair::Journal)? {
         Standing::None => begin(alloc, disk, limit),
@@ -241,14 +221,9 @@ fn begin<D: Disk>(
     ensures log { IfOk result (λ opened. opened.0 ≡ log_of Journal0 1 limit []) }
     ensures records { IfOk result (λ opened. opened.1.items ≡ []) }
     ensures want { MatchResult result (λ _. Unit {0}) IsWant }
-    ensures calls { OnOk result (Makes (D.honest disk.old) (D.told disk.old) (D.told disk.new) (renew_calls Journal0 (area_body 1 []))) }
-    ensures some { MakesFirst (D.honest disk.old) (D.told disk.old) (D.told disk.new) (renew_calls Journal0 (area_body 1 [])) }
     ensures moments { (t : Told) → Tells (D.told disk.old) (D.honest disk.old) t → LeavesOnly t (D.told disk.new) (SameRecords (reads t)) }
     ensures done { (u : Told) → Tells (D.told disk.new) (D.honest disk.new) u → OnOk result (IsSettled u) }
-    ensures honest { D.honest disk.new ≡ D.honest disk.old }
-    ensures goes { GoesBy (renew_ops Journal0 (area_body 1 [])) (D.memory disk.old) (D.memory disk.new) (log_ending result) }
-    ensures causes { LogCauses (D.faults disk.old) (D.faults disk.new) result }
-    ensures wants { D.wants disk.old ≤ D.wants disk.new }
+    ensures went { WentBy D.Disk (renew_ops Journal0 (area_body 1 [])) disk.old disk.new (log_ending result) }
 {
     let bytes = no_records(alloc, 1)?;
     renew(disk, Area::Journal0, &bytes)?;
@@ -277,10 +252,7 @@ fn resume<D: Disk>(
     ensures content { (t : Told) → Tells (D.told disk.old) (D.honest disk.old) t → IfOk result (λ opened. StandsFor opened.1.items (area_bytes area t)) }
     ensures full { (len : ℕ) → IsErrOf result (Full len) → ⊥ }
     ensures told { D.told disk.new ≡ D.told disk.old }
-    ensures honest { D.honest disk.new ≡ D.honest disk.old }
-    ensures goes { GoesBy (area_readings area) (D.memory disk.old) (D.memory disk.new) (log_ending result) }
-    ensures causes { LogCauses (D.faults disk.old) (D.faults disk.new) result }
-    ensures wants { D.wants disk.old ≤ D.wants disk.new }
+    ensures went { WentBy D.Disk (area_readings area) disk.old disk.new (log_ending result) }
 {
     let bytes = read_all(alloc, disk, area)?;
     let (records, gate) = walk(alloc, area, &bytes)?;

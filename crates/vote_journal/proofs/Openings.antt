@@ -9,15 +9,17 @@ use Rattle.disk_model.specs.declared.area.Area.{Area}
 use Rattle.disk_model.specs.declared.areas.Areas.{Areas}
 use Rattle.disk_model.specs.declared.call.Call.{Call}
 use Rattle.disk_model.specs.declared.call.Call.TheVariants.{Sync}
-use Rattle.disk_model.specs.Calls.{Told, Tells, and_then, made_by, Makes, MakesFirst, IsImage, LeavesOnly, reads}
+use Rattle.disk_model.specs.Calls.{Told, and_then, IsImage, LeavesOnly, reads}
 use Rattle.gate_area.specs.declared.pair.Pair.TheVariants.{Journal as JournalPair}
 use Rattle.gate_area.specs.Standing.{stands}
 use Rattle.gate_log.specs.declared.fault.LogFault.{LogFault}
 use Rattle.gate_log.specs.declared.fault.LogFault.TheVariants as logs
-use Rattle.gate_log.specs.Journal.{Log, Holds, IsFound, records_in, log_at, append_calls, appended, find_calls, open_calls}
+use Rattle.disk_model.specs.Went.{changes}
+use Rattle.gate_log.specs.Operations.{find_ops, open_ops}
+use Rattle.gate_log.specs.Journal.{Log, Holds, IsFound, records_in, log_at, appended}
 use Rattle.gate_log.specs.Moments.{ChecksStay, OldOrNew, SameRecords, SinceSync, Finds}
 use Rattle.gate_log.specs.Moments as moments
-use Rattle.gate_area.proofs.Phases.{and_then-and_then, leaves_as, leaves_on, makes_as, makes_on, told_is, reads_image}
+use Rattle.gate_area.proofs.Phases.{leaves_as, leaves_on, told_is, reads_image}
 use Rattle.vote_state.specs.declared.change.Change.TheVariants.{Epoch}
 use Rattle.vote_state.specs.State.{State, nothing_kept, taken}
 use Rattle.vote_state.specs.Valid.{IsChange}
@@ -27,7 +29,7 @@ use Rattle.vote_journal.specs.Epochs.{epochs_rise}
 use Rattle.vote_journal.specs.Spelling.{first_bytes}
 use Rattle.vote_journal.specs.Faults.{opened_as}
 use Rattle.vote_journal.specs.Grammar.{first_of}
-use Rattle.vote_journal.specs.Journal.{first_state, state_of, next_epoch, epoch_record, opened_state, opening_of, opened_end, epoch_calls, judged_calls, Journal, state_in, Stands, OpenLeaves, IsOpened, IsWant, OpensAs, OpensBy}
+use Rattle.vote_journal.specs.Journal.{first_state, state_of, next_epoch, epoch_record, opened_state, opening_of, opened_end, Journal, state_in, Stands, OpenLeaves, IsOpened, IsWant, OpensAs, OpensBy}
 use Rattle.vote_journal.proofs.RecordLaws.{whole_first_again}
 use Rattle.vote_journal.proofs.Recording.{one_more}
 
@@ -115,43 +117,7 @@ with_room listed x id limit (Err (area, at)) old j is so_far more own same end r
 pub within : {X : Type 0} (limit long : ℕ) → (limit < long → X × ⊥) → long ≤ limit
 within limit long never = elim (cases_lt limit long) [ inl over ↦ absurd (never over).1 | inr low ↦ low ]
 
--- ---- the calls, and the log
-
--- the calls of the record are those that the bytes make
-pub judged_are : (id : NodeId) (limit : ℕ) (standing : Result (Option (Area × ℕ)) (Area × ℕ)) (found : Found) (records : List (List ℕ)) (old : State) (log : Log) (bytes : List ℕ) → IsFound limit records standing log → found ≡ Ok records → state_of id records ≡ Ok old
-    → bytes ≡ epoch_record id records old → judged_calls id limit standing found ≡ append_calls log bytes
-judged_are id limit (Ok standing) found records old log bytes is found_is so_far spelled =
-    ap (judged_calls id limit (Ok standing)) found_is
-    ∙ ap (epoch_calls id (log_at limit records standing) records) so_far
-    ∙ ap (λ (b : List ℕ). append_calls (log_at limit records standing) b) (sym spelled)
-    ∙ ap (λ (l : Log). append_calls l bytes) (sym is)
-judged_are id limit (Err spot) found records old log bytes is found_is so_far spelled = absurd is
-
--- all were made
-pub all_made : (honest honest' : Bool) (old mid now : Option Told) (xs ys : Told → List Call) (cs : List Call) → honest' ≡ honest → Makes honest old mid xs → Makes honest' mid now (λ t. cs) → ((t : Told) → Tells old honest t → ys t ≡ cs) → Makes honest old now (λ t. xs t ++ ys t)
-all_made honest honest' old mid now xs ys cs same first second is =
-    makes_as honest old now (λ t. xs t ++ cs) (λ t. xs t ++ ys t) (λ t tells. ap (λ ds. xs t ++ ds) (sym (is t tells)))
-    (makes_on honest old mid now xs cs first (λ h. second (same ∙ h)))
-
--- only some of the first ones
-pub first_made : (honest : Bool) (old now : Option Told) (xs ys : Told → List Call) → MakesFirst honest old now xs → MakesFirst honest old now (λ t. xs t ++ ys t)
-first_made honest None now xs ys (j, made) = (j, made)
-first_made honest (Some t) now xs ys (j, made) = (min j (length (xs t)), λ h. made h ∙ ap (λ cs. Some (and_then t cs)) (sym (cut j (length (xs t)) (xs t) (ys t) refl)))
-  where
-    cut : (j n : ℕ) (cs ds : List Call) → n ≡ length cs → take (min j n) (cs ++ ds) ≡ take j cs
-    cut j n cs ds size = take-append-le (min j n) cs ds (omega (arith, size)) ∙ elim (cases_lt n j) [
-      | inl more ↦ ap (λ k. take k cs) (let e : min j n ≡ n = omega arith in e) ∙ take_all n cs (omega (arith, size)) ∙ sym (take_all j cs (omega (arith, size)))
-      | inr less ↦ ap (λ k. take k cs) (let e : min j n ≡ j = omega arith in e)
-    ]
-
--- all of the first ones, and some of the others
-pub then_made : (honest honest' : Bool) (old mid now : Option Told) (xs ys : Told → List Call) (cs : List Call) → honest' ≡ honest → Makes honest old mid xs → MakesFirst honest' mid now (λ t. cs) → ((t : Told) → Tells old honest t → ys t ≡ cs) → MakesFirst honest old now (λ t. xs t ++ ys t)
-then_made honest honest' None mid now xs ys cs same first (j, made) is = (0, λ h. made (same ∙ h) ∙ ap (made_by (λ t. take j cs)) (first h))
-then_made honest honest' (Some t) mid now xs ys cs same first (j, made) is =
-    (length (xs t) + j, λ h. made (same ∙ h) ∙ ap (made_by (λ t. take j cs)) (first h) ∙ ap Some (and_then-and_then t (xs t) (take j cs) ∙ ap (λ ds. and_then t ds) (sym (cut h))))
-  where
-    cut : honest ≡ true → take (length (xs t) + j) (xs t ++ ys t) ≡ xs t ++ take j cs
-    cut h = take-append-add (xs t) (ys t) j ∙ ap (λ ds. xs t ++ take j ds) (is t (record { honest = h; told = refl }))
+-- ---- the log
 
 -- the log is the one of the bytes
 pub log_opened : (id : NodeId) (limit : ℕ) (areas : Areas) (found : Result (Option (Area × ℕ)) (Area × ℕ)) (records : List (List ℕ)) (old : State) (log next : Log) (bytes : List ℕ) → stands JournalPair areas ≡ found → IsFound limit records found log → records_in areas ≡ Ok records
@@ -206,10 +172,10 @@ not_longer : (n m : ℕ) → n ≡ n + (m + 1) → ⊥
 not_longer n m h = absurd (omega (arith, h))
 
 -- calls were made, so what is told isn't what was told before
-not_same : (t u : Told) → u ≡ and_then t (open_calls t) → u ≡ t → ⊥
+not_same : (t u : Told) → u ≡ and_then t (changes open_ops t) → u ≡ t → ⊥
 not_same t u made same =
-    let lengths : length t.calls ≡ length (t.calls ++ open_calls t) = ap (λ (x : Told). length x.calls) (sym same ∙ made) in
-    not_longer (length t.calls) (length (find_calls t)) (lengths ∙ counted t.calls (find_calls t))
+    let lengths : length t.calls ≡ length (t.calls ++ changes open_ops t) = ap (λ (x : Told). length x.calls) (sym same ∙ made) in
+    not_longer (length t.calls) (length (changes find_ops t)) (lengths ∙ counted t.calls (changes find_ops t))
   where
     counted : (xs ys : List Call) → length (xs ++ Sync ∷ ys) ≡ length xs + (length ys + 1)
     counted [] ys = omega arith
@@ -219,7 +185,7 @@ both_stay : (before middle image : Areas) → ChecksStay before middle → Check
 both_stay before middle image first second = record { check2 = second.check2 ∙ first.check2; check3 = second.check3 ∙ first.check3 }
 
 -- what the last of the log's opening left, the epoch's record leaves or has one more
-pub epoch_leaves : (t u : Told) (mid now : Option Told) (id : NodeId) (records : List (List ℕ)) (s : State) → SinceSync t mid (SameRecords (reads t)) → mid ≡ Some u → u ≡ and_then t (open_calls t)
+pub epoch_leaves : (t u : Told) (mid now : Option Told) (id : NodeId) (records : List (List ℕ)) (s : State) → SinceSync t mid (SameRecords (reads t)) → mid ≡ Some u → u ≡ and_then t (changes open_ops t)
     → records_in (reads t) ≡ Ok records → state_of id records ≡ Ok s → s.epoch + 1 < 2 ^ 32 → LeavesOnly u now (OldOrNew records (records ++ epoch_record id records s ∷ []) (reads u)) → SinceSync t now (OpenLeaves id (reads t))
 epoch_leaves t u mid now id records s (inl none) told made found is fits leaves = absurd (not_same t u made (told_is t u mid none told))
 epoch_leaves t u mid now id records s (inr first) told made found is fits leaves =

@@ -33,23 +33,3 @@ Says walked (Err fault) = (fault ≡ opens.Memory) ⊎ (walked ≡ Err fault)
 abbrev pub refused_at : ℕ → CodecFault → OpenFault
 refused_at at fields.Memory = opens.Memory
 refused_at at other = opens.BadRecord at
-
--- `Disk` comes only where the count of faults rose, and nothing else raises it
-pub record JournalCauses {T : Type 0} (before now : ℕ) (result : Result T JournalFault) : Type 0 where
-  pub later : before ≤ now
-  pub disk : IsErrOf result journals.Disk → Rose before now
-  pub memory : IsErrOf result journals.Memory → now ≡ before
-  pub full : (len : ℕ) → IsErrOf result (journals.Full len) → now ≡ before
-  pub kept : OnOk result (now ≡ before)
-
--- the same of an opening
-pub record OpenCauses {T : Type 0} (before now : ℕ) (result : Result T OpenFault) : Type 0 where
-  pub later : before ≤ now
-  pub disk : IsErrOf result opens.Disk → Rose before now
-  pub memory : IsErrOf result opens.Memory → now ≡ before
-  pub damaged : (area : Area) (at : ℕ) → IsErrOf result (opens.Damaged area at) → now ≡ before
-  pub node : (id : NodeId) → IsErrOf result (opens.WrongNode id) → now ≡ before
-  pub spoilt : (at : ℕ) → IsErrOf result (opens.BadRecord at) → now ≡ before
-  pub last : IsErrOf result opens.EpochLimit → now ≡ before
-  pub full : (len : ℕ) → IsErrOf result (opens.Full len) → now ≡ before
-  pub kept : OnOk result (now ≡ before)

@@ -3,12 +3,11 @@ use Rattle.std.specs.Prelude.{◌≡◌, ◌⊎◌, ℕ, ◌+◌, ◌-◌, ◌<�
 use Rattle.mrp_types.specs.declared.id.NodeId.{NodeId}
 use Rattle.disk_model.specs.declared.area.Area.{Area}
 use Rattle.disk_model.specs.declared.areas.Areas.{Areas}
-use Rattle.disk_model.specs.declared.call.Call.{Call}
-use Rattle.disk_model.specs.Calls.{Told, reads}
+use Rattle.disk_model.specs.Calls.{Told}
 use Rattle.gate_area.specs.declared.pair.Pair.TheVariants.{Journal as JournalPair}
 use Rattle.gate_area.specs.Standing.{stands}
 use Rattle.gate_log.specs.Records.{end_of}
-use Rattle.gate_log.specs.Journal.{Log, Holds, records_in, log_at, append_calls, appended, compacted, open_calls}
+use Rattle.gate_log.specs.Journal.{Log, Holds, records_in, log_at, appended, compacted}
 use Rattle.gate_log.specs.Moments.{ChecksStay}
 use Rattle.command_codec.specs.declared.fault.CodecFault.{CodecFault}
 use Rattle.vote_state.specs.declared.change.Change.{Change}
@@ -99,12 +98,7 @@ pub record BeforeOrAfter (id : NodeId) (old new : State) (before image : Areas) 
   pub checks : ChecksStay before image
   pub state : state_in id image old ⊎ state_in id image new
 
--- ---- the calls
-
--- a list without changes makes none
-abbrev pub record_calls : Journal → List Change → List Call
-record_calls j [] = []
-record_calls j (c ∷ cs) = append_calls j.log (record_bytes (c ∷ cs))
+-- ---- records
 
 -- the journal with these changes more
 abbrev pub recorded : Journal → List Change → Journal
@@ -163,21 +157,6 @@ pub record IsOpened (id : NodeId) (limit : ℕ) (areas : Areas) (opened : Log) :
   pub found : records_in areas ≡ Ok records
   pub state : state_of id records ≡ Ok old
   pub log : opened ≡ appended (log_at limit records standing) (epoch_record id records old)
-
--- the calls of the record of an epoch, where the records were judged
-abbrev pub epoch_calls : NodeId → Log → List (List ℕ) → Result State OpenFault → List Call
-epoch_calls id log records (Ok s) = append_calls log (epoch_record id records s)
-epoch_calls id log records (Err fault) = []
-
--- the same where they were found
-abbrev pub judged_calls : NodeId → ℕ → Result (Option (Area × ℕ)) (Area × ℕ) → Result (List (List ℕ)) (Area × ℕ) → List Call
-judged_calls id limit (Ok standing) (Ok records) = epoch_calls id (log_at limit records standing) records (state_of id records)
-judged_calls id limit (Ok standing) (Err spot) = []
-judged_calls id limit (Err spot) found = []
-
--- the calls of an opening: those of its log, and those of the record of the epoch
-abbrev pub opening_calls : NodeId → ℕ → Told → List Call
-opening_calls id limit t = open_calls t ++ judged_calls id limit (stands JournalPair (reads t)) (records_in (reads t))
 
 -- the journal with that record as the only one, in the other area
 abbrev pub compacted_journal : Journal → Journal

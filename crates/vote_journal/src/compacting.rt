@@ -1,14 +1,13 @@
 //! One record in place of all.
 
 ghost use Rattle.std.specs.Prelude.{◌≡◌, ◌⊎◌, ◌≤◌, ◌+◌, ◌-◌, ◌<◌, ◌^◌, ℕ, List, [], ◌∷◌, length, OnOk, IfOk, IsErrOf, MatchResult};
-ghost use Rattle.disk_model.specs.Calls.{Told, Tells, Makes, MakesFirst, LeavesOnly, IsSettled, reads};
-ghost use Rattle.disk_model.specs.Running.{GoesBy};
+ghost use Rattle.disk_model.specs.Calls.{Told, Tells, LeavesOnly, IsSettled, reads};
+ghost use Rattle.disk_model.specs.Went.{WentBy};
 ghost use Rattle.disk_model.specs.declared.area.Area.{Area as SomeArea};
-ghost use Rattle.gate_log.specs.Journal.{Holds, IsLogOf, compact_calls, compacted};
+ghost use Rattle.gate_log.specs.Journal.{Holds, IsLogOf, compacted};
 ghost use Rattle.gate_log.specs.Operations.{compact_ops, log_ending};
-ghost use Rattle.gate_log.specs.Moments.{LogCauses, OldOrNew};
+ghost use Rattle.gate_log.specs.Moments.{OldOrNew};
 ghost use Rattle.gate_log.specs.declared.fault.LogFault.TheVariants.{Full as LogFull, Memory as LogMemory, Damaged as LogDamaged};
-ghost use Rattle.vote_journal.specs.Faults.{JournalCauses};
 ghost use Rattle.vote_journal.specs.Journal.{Stands, BeforeOrAfter, compact_record, compacted_journal};
 ghost use Rattle.vote_journal.specs.Operations.{compaction_ops, journal_ending};
 ghost use Rattle.vote_journal.specs.declared.fault.JournalFault.TheVariants.{Full, Memory};
@@ -26,8 +25,6 @@ impl VoteJournal {
         requires generation { self.log.generation < 2 ^ 64 - 1 }
         requires settled { (t : Told) → Tells (D.told disk.old) (D.honest disk.old) t → IsSettled t }
         requires stands { (t : Told) → Tells (D.told disk.old) (D.honest disk.old) t → Stands self (reads t) }
-        ensures calls { OnOk result (Makes (D.honest disk.old) (D.told disk.old) (D.told disk.new) (compact_calls self.log (compact_record self))) }
-        ensures some { MakesFirst (D.honest disk.old) (D.told disk.old) (D.told disk.new) (compact_calls self.log (compact_record self)) }
         ensures full { (len : ℕ) → IsErrOf result (Full len) → (len ≡ 22 + length (compact_record self)) × (self.log.limit < len) }
         ensures idle { self.log.limit < 22 + length (compact_record self) → disk.new ≡ disk.old }
         ensures longer { self.log.limit < 22 + length (compact_record self) →
@@ -37,10 +34,7 @@ impl VoteJournal {
             LeavesOnly t (D.told disk.new) (BeforeOrAfter self.id self.state self.state (reads t)) }
         ensures stands { (u : Told) → Tells (D.told disk.new) (D.honest disk.new) u → IfOk result (λ journal. Stands journal (reads u)) }
         ensures done { (u : Told) → Tells (D.told disk.new) (D.honest disk.new) u → OnOk result (IsSettled u) }
-        ensures honest { D.honest disk.new ≡ D.honest disk.old }
-        ensures goes { GoesBy (compaction_ops self) (D.memory disk.old) (D.memory disk.new) (journal_ending result) }
-        ensures causes { JournalCauses (D.faults disk.old) (D.faults disk.new) result }
-        ensures wants { D.wants disk.old ≤ D.wants disk.new }
+        ensures went { WentBy D.Disk (compaction_ops self) disk.old disk.new (journal_ending result) }
     {
         let VoteJournal {
             alloc,
@@ -70,8 +64,6 @@ fn replace_records<D: Disk>(
     requires generation { log.generation < 2 ^ 64 - 1 }
     requires settled { (t : Told) → Tells (D.told disk.old) (D.honest disk.old) t → IsSettled t }
     requires log { (t : Told) → Tells (D.told disk.old) (D.honest disk.old) t → IsLogOf log (reads t) }
-    ensures calls { OnOk result (Makes (D.honest disk.old) (D.told disk.old) (D.told disk.new) (compact_calls log bytes.now)) }
-    ensures some { MakesFirst (D.honest disk.old) (D.told disk.old) (D.told disk.new) (compact_calls log bytes.now) }
     ensures full { (len : ℕ) → IsErrOf result (LogFull len) → (len ≡ 22 + length bytes.now) × (log.limit < len) }
     ensures longer { log.limit < 22 + length bytes.now → (disk.new ≡ disk.old) × MatchResult result (λ _. ⊥) (λ fault. (fault ≡ LogFull (22 + length bytes.now)) ⊎ (fault ≡ LogMemory)) }
     ensures undamaged { (area : SomeArea) (at : ℕ) → IsErrOf result (LogDamaged area at) → ⊥ }
@@ -81,10 +73,7 @@ fn replace_records<D: Disk>(
     ensures holds { (t u : Told) (records : List (List ℕ)) → Tells (D.told disk.old) (D.honest disk.old) t → Tells (D.told disk.new) (D.honest disk.new) u →
         Holds log records (reads t) → IfOk result (λ next. Holds next (bytes.now ∷ []) (reads u)) }
     ensures done { (u : Told) → Tells (D.told disk.new) (D.honest disk.new) u → OnOk result (IsSettled u) }
-    ensures honest { D.honest disk.new ≡ D.honest disk.old }
-    ensures goes { GoesBy (compact_ops log bytes.now) (D.memory disk.old) (D.memory disk.new) (log_ending result) }
-    ensures causes { LogCauses (D.faults disk.old) (D.faults disk.new) result }
-    ensures wants { D.wants disk.old ≤ D.wants disk.new }
+    ensures went { WentBy D.Disk (compact_ops log bytes.now) disk.old disk.new (log_ending result) }
 {
     let mut body = Body::new(alloc);
     body.push(bytes)?;

@@ -2,19 +2,18 @@
 
 ghost use Rattle.std.specs.Prelude.{◌≡◌, ◌⊎◌, ◌≤◌, ◌<◌, ◌+◌, ◌-◌, ◌^◌, ◌++◌, ℕ, List, [], ◌∷◌, length, OnOk, IfOk, IsErrOf, IsTrue, MatchResult};
 ghost use Rattle.std.specs.List.{AllByRecursion};
-ghost use Rattle.disk_model.specs.Calls.{Told, Tells, Makes, MakesFirst, LeavesOnly, IsSettled, reads};
+ghost use Rattle.disk_model.specs.Calls.{Told, Tells, LeavesOnly, IsSettled, reads};
 ghost use Rattle.disk_model.specs.Causes.{Rose};
-ghost use Rattle.disk_model.specs.Running.{GoesBy};
+ghost use Rattle.disk_model.specs.Went.{WentBy};
 ghost use Rattle.gate_log.specs.Operations.{append_ops, log_ending};
-ghost use Rattle.gate_log.specs.Journal.{Holds, IsLogOf, append_calls, appended};
-ghost use Rattle.gate_log.specs.Moments.{LogCauses, OldOrNew};
+ghost use Rattle.gate_log.specs.Journal.{Holds, IsLogOf, appended};
+ghost use Rattle.gate_log.specs.Moments.{OldOrNew};
 ghost use Rattle.gate_log.specs.declared.fault.LogFault.TheVariants.{Full as LogFull, Memory as LogMemory, Damaged as LogDamaged};
 ghost use Rattle.disk_model.specs.declared.area.Area.{Area as SomeArea};
 ghost use Rattle.vote_state.specs.State.{taken};
 ghost use Rattle.vote_state.specs.Valid.{IsChange};
 ghost use Rattle.vote_journal.specs.Epochs.{epochs_rise};
-ghost use Rattle.vote_journal.specs.Faults.{JournalCauses};
-ghost use Rattle.vote_journal.specs.Journal.{Stands, BeforeOrAfter, record_calls, recorded, recorded_end};
+ghost use Rattle.vote_journal.specs.Journal.{Stands, BeforeOrAfter, recorded, recorded_end};
 ghost use Rattle.vote_journal.specs.Operations.{journal_ending, record_ops};
 ghost use Rattle.vote_journal.specs.declared.fault.JournalFault.TheVariants.{Full, Memory};
 
@@ -85,8 +84,6 @@ impl VoteJournal {
         requires stands { (t : Told) → Tells (D.told disk.old) (D.honest disk.old) t → Stands self (reads t) }
         requires changes { AllByRecursion IsChange changes.now }
         requires epochs { IsTrue (epochs_rise self.state.epoch changes.now) }
-        ensures calls { OnOk result (Makes (D.honest disk.old) (D.told disk.old) (D.told disk.new) (λ t. record_calls self changes.now)) }
-        ensures some { MakesFirst (D.honest disk.old) (D.told disk.old) (D.told disk.new) (λ t. record_calls self changes.now) }
         ensures none { changes.now ≡ [] → (disk.new ≡ disk.old) × MatchResult result (λ journal. journal ≡ self) (λ _. ⊥) }
         ensures full { (len : ℕ) → IsErrOf result (Full len) → (len ≡ recorded_end self changes.now) × (self.log.limit < len) }
         ensures idle { self.log.limit < recorded_end self changes.now → disk.new ≡ disk.old }
@@ -97,12 +94,9 @@ impl VoteJournal {
             LeavesOnly t (D.told disk.new) (BeforeOrAfter self.id self.state (taken changes.now self.state) (reads t)) }
         ensures stands { (u : Told) → Tells (D.told disk.new) (D.honest disk.new) u → IfOk result (λ journal. Stands journal (reads u)) }
         ensures done { (u : Told) → Tells (D.told disk.new) (D.honest disk.new) u → OnOk result (IsSettled u) }
-        ensures honest { D.honest disk.new ≡ D.honest disk.old }
-        ensures goes { GoesBy (λ t. record_ops self changes.now) (D.memory disk.old) (D.memory disk.new) (journal_ending result) }
-        ensures causes { JournalCauses (D.faults disk.old) (D.faults disk.new) result }
+        ensures went { WentBy D.Disk (λ t. record_ops self changes.now) disk.old disk.new (journal_ending result) }
         // its own memory is taken before the first call
         ensures early { IsErrOf result Memory → (disk.new ≡ disk.old) ⊎ Rose (D.wants disk.old) (D.wants disk.new) }
-        ensures wants { D.wants disk.old ≤ D.wants disk.new }
     {
         if changes.items().is_empty() {
             return Ok(self);
@@ -135,8 +129,6 @@ pub(crate) fn write_record<D: Disk>(
 ) -> Result<GateLog, LogFault>
     requires settled { (t : Told) → Tells (D.told disk.old) (D.honest disk.old) t → IsSettled t }
     requires log { (t : Told) → Tells (D.told disk.old) (D.honest disk.old) t → IsLogOf log (reads t) }
-    ensures calls { OnOk result (Makes (D.honest disk.old) (D.told disk.old) (D.told disk.new) (λ t. append_calls log bytes.now)) }
-    ensures some { MakesFirst (D.honest disk.old) (D.told disk.old) (D.told disk.new) (λ t. append_calls log bytes.now) }
     ensures full { (len : ℕ) → IsErrOf result (LogFull len) → (len ≡ log.end + (5 + length bytes.now)) × (log.limit < len) }
     ensures longer { log.limit < log.end + (5 + length bytes.now) → (disk.new ≡ disk.old) × MatchResult result (λ _. ⊥) (λ fault. (fault ≡ LogFull (log.end + (5 + length bytes.now))) ⊎ (fault ≡ LogMemory)) }
     ensures undamaged { (area : SomeArea) (at : ℕ) → IsErrOf result (LogDamaged area at) → ⊥ }
@@ -146,11 +138,8 @@ pub(crate) fn write_record<D: Disk>(
     ensures holds { (t u : Told) (records : List (List ℕ)) → Tells (D.told disk.old) (D.honest disk.old) t → Tells (D.told disk.new) (D.honest disk.new) u →
         Holds log records (reads t) → IfOk result (λ next. Holds next (records ++ bytes.now ∷ []) (reads u)) }
     ensures done { (u : Told) → Tells (D.told disk.new) (D.honest disk.new) u → OnOk result (IsSettled u) }
-    ensures honest { D.honest disk.new ≡ D.honest disk.old }
-    ensures goes { GoesBy (λ t. append_ops log bytes.now) (D.memory disk.old) (D.memory disk.new) (log_ending result) }
-    ensures causes { LogCauses (D.faults disk.old) (D.faults disk.new) result }
+    ensures went { WentBy D.Disk (λ t. append_ops log bytes.now) disk.old disk.new (log_ending result) }
     ensures early { IsErrOf result LogMemory → (disk.new ≡ disk.old) ⊎ Rose (D.wants disk.old) (D.wants disk.new) }
-    ensures wants { D.wants disk.old ≤ D.wants disk.new }
 {
     let mut body = Body::new(alloc);
     body.push(bytes)?;

@@ -1,14 +1,14 @@
 //! The opening of a journal.
 
 ghost use Rattle.std.specs.Prelude.{◌≡◌, ◌⊎◌, ◌≤◌, ◌<◌, ◌+◌, ◌^◌, ◌==◌, ◌++◌, ℕ, List, [], ◌∷◌, length, OnOk, IfOk, IsErrOf, IsTrue, MatchResult, Ok, Err};
-ghost use Rattle.disk_model.specs.Calls.{Told, Tells, Makes, MakesFirst, LeavesOnly, IsSettled, reads};
-ghost use Rattle.disk_model.specs.Running.{GoesBy};
+ghost use Rattle.disk_model.specs.Calls.{Told, Tells, LeavesOnly, IsSettled, reads};
+ghost use Rattle.disk_model.specs.Went.{WentBy};
 ghost use Rattle.gate_log.specs.Records.{room, end_of};
 ghost use Rattle.gate_log.specs.Journal.{Log, Holds, records_in};
 ghost use Rattle.gate_log.specs.Moments.{SinceSync};
 ghost use Rattle.vote_state.specs.State.{State, taken};
-ghost use Rattle.vote_journal.specs.Faults.{Says, OpenCauses};
-ghost use Rattle.vote_journal.specs.Journal.{Stands, OpensBy, OpenLeaves, IsOpened, opening_calls, opened_state, record_of, epoch_record};
+ghost use Rattle.vote_journal.specs.Faults.{Says};
+ghost use Rattle.vote_journal.specs.Journal.{Stands, OpensBy, OpenLeaves, IsOpened, opened_state, record_of, epoch_record};
 ghost use Rattle.vote_journal.specs.Operations.{open_ending, opening_ops};
 ghost use Rattle.vote_journal.specs.declared.fault.OpenFault.TheVariants.{Memory as NoMemory, Disk};
 ghost use Rattle.vote_state.specs.Valid.{IsChange};
@@ -39,15 +39,10 @@ impl VoteJournal {
         ensures room { IfOk result (λ journal. (journal.log.limit ≡ limit) × (journal.log.end ≤ limit)) }
         ensures finds { (t : Told) → Tells (D.told disk.old) (D.honest disk.old) t → OpensBy id limit (records_in (reads t)) result }
         ensures log { (t : Told) → Tells (D.told disk.old) (D.honest disk.old) t → IfOk result (λ journal. IsOpened id limit (reads t) journal.log) }
-        ensures calls { OnOk result (Makes (D.honest disk.old) (D.told disk.old) (D.told disk.new) (opening_calls id limit)) }
-        ensures some { MakesFirst (D.honest disk.old) (D.told disk.old) (D.told disk.new) (opening_calls id limit) }
         ensures moments { (t : Told) → Tells (D.told disk.old) (D.honest disk.old) t → SinceSync t (D.told disk.new) (OpenLeaves id (reads t)) }
         ensures stands { (u : Told) → Tells (D.told disk.new) (D.honest disk.new) u → IfOk result (λ journal. Stands journal (reads u)) }
         ensures done { (u : Told) → Tells (D.told disk.new) (D.honest disk.new) u → OnOk result (IsSettled u) }
-        ensures honest { D.honest disk.new ≡ D.honest disk.old }
-        ensures goes { GoesBy (opening_ops id limit) (D.memory disk.old) (D.memory disk.new) (open_ending result) }
-        ensures causes { OpenCauses (D.faults disk.old) (D.faults disk.new) result }
-        ensures wants { D.wants disk.old ≤ D.wants disk.new }
+        ensures went { WentBy D.Disk (opening_ops id limit) disk.old disk.new (open_ending result) }
     {
         let (log, records) = GateLog::open(alloc, disk, limit)?;
         let state = judge(alloc, id, &records)?;

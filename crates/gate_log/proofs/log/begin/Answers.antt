@@ -5,8 +5,8 @@ use Rattle.gate_log.specs.Moments.{SameRecords}
 use Rattle.gate_area.specs.Gate.{RenewLeaves}
 use Rattle.gate_area.proofs.Phases.{leaves_as, stays_leaves}
 use Rattle.gate_log.proofs.Renewals.{length-body, fresh_same}
-use Rattle.disk_model.specs.Running.{refused_ending, Passed}
-use Rattle.gate_log.proofs.Going.{begin_goes, refused_goes, wanted_goes}
+use Rattle.disk_model.proofs.Went.{went_none, went_wanting}
+use Rattle.gate_log.proofs.Going.{begin_went, refused_went, wanted_went}
 use Rattle.gate_area.specs.Operations.{renew_ops}
 use Rattle.gate_log.specs.Records.{area_body}
 use Rattle.gate_log.proofs.log.begin.Goals as goal
@@ -28,14 +28,13 @@ returns-clause-moments g c t tells =
     leaves_as t (g.D.Disk.told c.renew.new.disk) (RenewLeaves Journal0 c.deref.result.now (reads t)) (SameRecords (reads t)) (c.renew.ensures.moments t tells)
     (λ image leaves. fresh_same (reads t) image (c.requires.fresh t tells) (subst (λ (b : List ℕ). RenewLeaves Journal0 b (reads t) image) (c.deref.ensures.value ∙ c.in_ok-bytes.ensures) leaves))
 
-pub returns-in_err-bytes-clause-goes : goal.returns-in_err-bytes-clause-goes
-returns-in_err-bytes-clause-goes g c = wanted_goes (renew_ops Journal0 (area_body 1 [])) (g.D.Disk.memory c.args.disk.now) (g.D.Disk.memory c.args.disk.now) c.from_residual.result c.from_residual.ensures.1
+pub returns-in_err-bytes-clause-went : goal.returns-in_err-bytes-clause-went
+returns-in_err-bytes-clause-went g c = wanted_went c.from_residual.result c.from_residual.ensures.1 (went_wanting (renew_ops Journal0 (area_body 1 [])) (went_none g.D.Disk c.args.disk.now))
 
-pub returns-in_err-renew-clause-goes : goal.returns-in_err-renew-clause-goes
-returns-in_err-renew-clause-goes g c =
-    refused_goes (renew_ops Journal0 (area_body 1 [])) (g.D.Disk.memory c.args.disk.now) (g.D.Disk.memory c.renew.new.disk) c.in_err-renew.field-0.0 c.from_residual-in_err-renew.result c.from_residual-in_err-renew.ensures.1
-    (begin_goes c.deref.result.now (g.D.Disk.memory c.args.disk.now) (g.D.Disk.memory c.renew.new.disk) (refused_ending c.in_err-renew.field-0.0) (c.deref.ensures.value ∙ c.in_ok-bytes.ensures) c.in_err-renew.ensures.goes)
+pub returns-in_err-renew-clause-went : goal.returns-in_err-renew-clause-went
+returns-in_err-renew-clause-went g c =
+    refused_went c.in_err-renew.field-0.0 c.from_residual-in_err-renew.result c.from_residual-in_err-renew.ensures.1
+    (begin_went c.deref.result.now (c.deref.ensures.value ∙ c.in_ok-bytes.ensures) c.in_err-renew.ensures.went)
 
-pub returns-clause-goes : goal.returns-clause-goes
-returns-clause-goes g c =
-    begin_goes c.deref.result.now (g.D.Disk.memory c.args.disk.now) (g.D.Disk.memory c.renew.new.disk) Passed (c.deref.ensures.value ∙ c.in_ok-bytes.ensures) c.in_ok-renew.ensures.goes
+pub returns-clause-went : goal.returns-clause-went
+returns-clause-went g c = begin_went c.deref.result.now (c.deref.ensures.value ∙ c.in_ok-bytes.ensures) c.in_ok-renew.ensures.went

@@ -6,26 +6,19 @@ use Rattle.disk_model.specs.Calls.{Told, area_bytes, reads}
 use Rattle.disk_model.proofs.Reading.{reads-bytes}
 use Rattle.gate_area.specs.declared.pair.Pair.TheVariants.{Journal}
 use Rattle.gate_area.specs.Standing.{stands}
-use Rattle.gate_log.specs.Journal.{begin_calls, find_calls, in_area, log_of, records_in, records_of}
+use Rattle.gate_log.specs.Journal.{in_area, log_of, records_in, records_of}
 use Rattle.gate_log.specs.Moments.{Finds, IsWant, SameRecords, surveyed_as}
 use Rattle.gate_log.specs.Records.{StandsFor, walk_of}
-use Rattle.gate_log.proofs.Answering.{Found, errs, finds_fault, fresh_stands, area_stands, finds_fresh, both, if_ok, on_ok, always_ok, causes_fault, holds_fresh, holds_standing, found_fresh, found_standing}
-use Rattle.gate_log.proofs.Moves.{Judgement}
-use Rattle.gate_log.proofs.Opens.{tells_as, fresh_makes, fresh_some, fresh_log}
-use Rattle.gate_area.proofs.Phases.{stays_leaves, makes_none, makes_first_none, makes_as, told_is}
-use Rattle.disk_model.specs.Running.{Passed}
-use Rattle.gate_log.proofs.Going.{found_goes, survey_goes}
-use Rattle.gate_log.specs.Operations.{log_ending}
+use Rattle.gate_log.proofs.Answering.{Found, errs, finds_fault, fresh_stands, area_stands, finds_fresh, both, if_ok, log_passed, holds_fresh, holds_standing, found_fresh, found_standing}
+use Rattle.gate_log.proofs.Opens.{tells_as, fresh_log}
+use Rattle.gate_area.proofs.Phases.{stays_leaves, told_is}
+use Rattle.disk_model.proofs.Went.{went_ends}
+use Rattle.gate_log.proofs.Going.{found_went, survey_went}
 use Rattle.gate_log.proofs.log.find.Goals as goal
 
 pub returns-in_err-survey-clause-finds : goal.returns-in_err-survey-clause-finds
 returns-in_err-survey-clause-finds g c t tells =
     finds_fault (λ opened. opened.1.items) (reads t) c.in_err-survey.field-0.0 c.from_residual.result (c.in_err-survey.ensures.answer t tells)
-    (errs c.from_residual.result _ (λ e. e ≡ surveyed_as c.in_err-survey.field-0.0) c.from_residual.ensures.1 (λ e same. same))
-
-pub returns-in_err-survey-clause-causes : goal.returns-in_err-survey-clause-causes
-returns-in_err-survey-clause-causes g c =
-    causes_fault (g.D.Disk.faults c.args.disk.now) (g.D.Disk.faults c.survey.new.disk) c.in_err-survey.field-0.0 c.from_residual.result c.in_err-survey.ensures.causes
     (errs c.from_residual.result _ (λ e. e ≡ surveyed_as c.in_err-survey.field-0.0) c.from_residual.ensures.1 (λ e same. same))
 
 pub returns-in_err-survey-clause-moments : goal.returns-in_err-survey-clause-moments
@@ -34,7 +27,7 @@ returns-in_err-survey-clause-moments g c t tells =
 
 pub begin-requires-clause-fresh : goal.begin-requires-clause-fresh
 begin-requires-clause-fresh g c t tells =
-    let before = tells_as (g.D.Disk.told c.survey.new.disk) (g.D.Disk.told c.args.disk.now) (g.D.Disk.honest c.survey.new.disk) (g.D.Disk.honest c.args.disk.now) t (sym c.survey.ensures.told) (sym c.survey.ensures.honest) tells in
+    let before = tells_as (g.D.Disk.told c.survey.new.disk) (g.D.Disk.told c.args.disk.now) (g.D.Disk.honest c.survey.new.disk) (g.D.Disk.honest c.args.disk.now) t (sym c.survey.ensures.told) (sym c.survey.ensures.went.honest) tells in
     fresh_stands (reads t) (c.in_ok-survey.ensures.answer t before ∙ ap Ok c.in-None.is)
 
 pub returns-in-None-clause-finds : goal.returns-in-None-clause-finds
@@ -42,42 +35,20 @@ returns-in-None-clause-finds g c t tells =
     finds_fresh (λ opened. opened.1.items) (reads t) c.begin.result (fresh_stands (reads t) (c.in_ok-survey.ensures.answer t tells ∙ ap Ok c.in-None.is))
     (both c.begin.result (λ opened. opened.1.items ≡ []) IsWant c.begin.ensures.records c.begin.ensures.want)
 
-pub returns-in-None-clause-calls : goal.returns-in-None-clause-calls
-returns-in-None-clause-calls g c =
-    on_ok c.begin.result c.begin.ensures.calls
-    (fresh_makes (g.D.Disk.honest c.args.disk.now) (g.D.Disk.honest c.survey.new.disk) (g.D.Disk.told c.args.disk.now) (g.D.Disk.told c.survey.new.disk) (g.D.Disk.told c.begin.new.disk) c.survey.ensures.told c.survey.ensures.honest
-    (λ t tells. fresh_stands (reads t) (c.in_ok-survey.ensures.answer t tells ∙ ap Ok c.in-None.is)))
-
-pub returns-in-None-clause-some : goal.returns-in-None-clause-some
-returns-in-None-clause-some g c =
-    fresh_some (g.D.Disk.honest c.args.disk.now) (g.D.Disk.honest c.survey.new.disk) (g.D.Disk.told c.args.disk.now) (g.D.Disk.told c.survey.new.disk) (g.D.Disk.told c.begin.new.disk) c.survey.ensures.told c.survey.ensures.honest
-    (λ t tells. fresh_stands (reads t) (c.in_ok-survey.ensures.answer t tells ∙ ap Ok c.in-None.is)) c.begin.ensures.some
-
 pub returns-in-None-clause-holds : goal.returns-in-None-clause-holds
 returns-in-None-clause-holds g c t u tells now_tells =
-    let mid = tells_as (g.D.Disk.told c.args.disk.now) (g.D.Disk.told c.survey.new.disk) (g.D.Disk.honest c.args.disk.now) (g.D.Disk.honest c.survey.new.disk) t c.survey.ensures.told c.survey.ensures.honest tells in
-    holds_fresh c.begin.result (log_of Journal0 1 c.args.limit []) (reads u) c.begin.ensures.log c.begin.ensures.records c.begin.ensures.calls
-    (fresh_log (g.D.Disk.honest c.survey.new.disk) (g.D.Disk.told c.survey.new.disk) (g.D.Disk.told c.begin.new.disk) t u c.args.limit (c.requires.settled t tells)
-    (fresh_stands (reads t) (c.in_ok-survey.ensures.answer t tells ∙ ap Ok c.in-None.is)) mid now_tells.told)
+    let mid = tells_as (g.D.Disk.told c.args.disk.now) (g.D.Disk.told c.survey.new.disk) (g.D.Disk.honest c.args.disk.now) (g.D.Disk.honest c.survey.new.disk) t c.survey.ensures.told c.survey.ensures.went.honest tells in
+    holds_fresh c.begin.result (log_of Journal0 1 c.args.limit []) (reads u) c.begin.ensures.log c.begin.ensures.records (log_passed c.begin.result)
+    (λ passed. fresh_log t u c.args.limit (c.requires.settled t tells)
+    (fresh_stands (reads t) (c.in_ok-survey.ensures.answer t tells ∙ ap Ok c.in-None.is)) mid now_tells.told (went_ends passed c.begin.ensures.went))
 
 pub returns-in-At-clause-finds : goal.returns-in-At-clause-finds
 returns-in-At-clause-finds g c t tells =
-    let mid = tells_as (g.D.Disk.told c.args.disk.now) (g.D.Disk.told c.survey.new.disk) (g.D.Disk.honest c.args.disk.now) (g.D.Disk.honest c.survey.new.disk) t c.survey.ensures.told c.survey.ensures.honest tells in
+    let mid = tells_as (g.D.Disk.told c.args.disk.now) (g.D.Disk.told c.survey.new.disk) (g.D.Disk.honest c.args.disk.now) (g.D.Disk.honest c.survey.new.disk) t c.survey.ensures.told c.survey.ensures.went.honest tells in
     let standing = area_stands (reads t) c.in-At.area c.in-At.generation c.in-At.len (c.in_ok-survey.ensures.answer t tells ∙ ap Ok c.in-At.is) in
     let expected : records_in (reads t) ≡ in_area c.in-At.area (walk_of (area_bytes c.in-At.area t)) =
     ap (records_of (reads t)) standing ∙ ap (λ (f : List ℕ). in_area c.in-At.area (walk_of f)) (reads-bytes t c.in-At.area) in
     subst (λ (x : Found). Finds (λ opened. opened.1.items) x c.resume.result) (sym expected) (c.resume.ensures.finds t mid)
-
-pub returns-in-At-clause-calls : goal.returns-in-At-clause-calls
-returns-in-At-clause-calls g c =
-    always_ok c.resume.result
-    (makes_as (g.D.Disk.honest c.args.disk.now) (g.D.Disk.told c.args.disk.now) (g.D.Disk.told c.resume.new.disk) (λ t. []) find_calls
-    (λ t tells. sym (ap (λ (j : Judgement). begin_calls j t) (area_stands (reads t) c.in-At.area c.in-At.generation c.in-At.len (c.in_ok-survey.ensures.answer t tells ∙ ap Ok c.in-At.is))))
-    (makes_none (g.D.Disk.honest c.args.disk.now) (g.D.Disk.told c.args.disk.now) (g.D.Disk.told c.resume.new.disk) (c.resume.ensures.told ∙ c.survey.ensures.told)))
-
-pub returns-in-At-clause-some : goal.returns-in-At-clause-some
-returns-in-At-clause-some g c =
-    makes_first_none (g.D.Disk.honest c.args.disk.now) (g.D.Disk.told c.args.disk.now) (g.D.Disk.told c.resume.new.disk) find_calls (c.resume.ensures.told ∙ c.survey.ensures.told)
 
 pub returns-in-At-clause-moments : goal.returns-in-At-clause-moments
 returns-in-At-clause-moments g c t tells =
@@ -86,7 +57,7 @@ returns-in-At-clause-moments g c t tells =
 pub returns-in-At-clause-holds : goal.returns-in-At-clause-holds
 returns-in-At-clause-holds g c t u tells now_tells =
     let area = c.in-At.area in
-    let mid = tells_as (g.D.Disk.told c.args.disk.now) (g.D.Disk.told c.survey.new.disk) (g.D.Disk.honest c.args.disk.now) (g.D.Disk.honest c.survey.new.disk) t c.survey.ensures.told c.survey.ensures.honest tells in
+    let mid = tells_as (g.D.Disk.told c.args.disk.now) (g.D.Disk.told c.survey.new.disk) (g.D.Disk.honest c.args.disk.now) (g.D.Disk.honest c.survey.new.disk) t c.survey.ensures.told c.survey.ensures.went.honest tells in
     let same : u ≡ t = told_is t u (g.D.Disk.told c.resume.new.disk) (c.resume.ensures.told ∙ c.survey.ensures.told ∙ tells.told) now_tells.told in
     let standing = area_stands (reads t) area c.in-At.generation c.in-At.len (c.in_ok-survey.ensures.answer t tells ∙ ap Ok c.in-At.is) in
     holds_standing c.resume.result area c.in-At.generation c.args.limit (reads u) c.resume.ensures.log
@@ -104,19 +75,15 @@ returns-in-At-clause-log g c t tells =
     found_standing c.resume.result c.in-At.area c.in-At.generation c.args.limit (reads t) c.resume.ensures.log
     (area_stands (reads t) c.in-At.area c.in-At.generation c.in-At.len (c.in_ok-survey.ensures.answer t tells ∙ ap Ok c.in-At.is))
 
-pub returns-in_err-survey-clause-goes : goal.returns-in_err-survey-clause-goes
-returns-in_err-survey-clause-goes g c =
-    survey_goes c.in_err-survey.field-0.0 c.from_residual.result (g.D.Disk.memory c.args.disk.now) (g.D.Disk.memory c.survey.new.disk)
-    (λ d is. c.in_err-survey.ensures.answer d.told (g.met.D.Disk.tells c.args.disk.now d is)) c.from_residual.ensures.1 c.in_err-survey.ensures.goes
+pub returns-in_err-survey-clause-went : goal.returns-in_err-survey-clause-went
+returns-in_err-survey-clause-went g c =
+    survey_went c.in_err-survey.field-0.0 c.from_residual.result g.met.D.Disk.tells c.in_err-survey.ensures.answer c.from_residual.ensures.1 c.in_err-survey.ensures.went
 
-pub returns-in-None-clause-goes : goal.returns-in-None-clause-goes
-returns-in-None-clause-goes g c =
-    found_goes (Ok None) (g.D.Disk.memory c.args.disk.now) (g.D.Disk.memory c.survey.new.disk) (g.D.Disk.memory c.begin.new.disk) (log_ending c.begin.result)
-    (λ d is. fresh_stands (reads d.told) (c.in_ok-survey.ensures.answer d.told (g.met.D.Disk.tells c.args.disk.now d is) ∙ ap Ok c.in-None.is))
-    c.in_ok-survey.ensures.goes c.begin.ensures.goes
+pub returns-in-None-clause-went : goal.returns-in-None-clause-went
+returns-in-None-clause-went g c =
+    found_went (Ok None) g.met.D.Disk.tells (λ t tells. fresh_stands (reads t) (c.in_ok-survey.ensures.answer t tells ∙ ap Ok c.in-None.is)) c.in_ok-survey.ensures.went c.begin.ensures.went
 
-pub returns-in-At-clause-goes : goal.returns-in-At-clause-goes
-returns-in-At-clause-goes g c =
-    found_goes (Ok (Some (c.in-At.area, c.in-At.generation))) (g.D.Disk.memory c.args.disk.now) (g.D.Disk.memory c.survey.new.disk) (g.D.Disk.memory c.resume.new.disk) (log_ending c.resume.result)
-    (λ d is. area_stands (reads d.told) c.in-At.area c.in-At.generation c.in-At.len (c.in_ok-survey.ensures.answer d.told (g.met.D.Disk.tells c.args.disk.now d is) ∙ ap Ok c.in-At.is))
-    c.in_ok-survey.ensures.goes c.resume.ensures.goes
+pub returns-in-At-clause-went : goal.returns-in-At-clause-went
+returns-in-At-clause-went g c =
+    found_went (Ok (Some (c.in-At.area, c.in-At.generation))) g.met.D.Disk.tells
+    (λ t tells. area_stands (reads t) c.in-At.area c.in-At.generation c.in-At.len (c.in_ok-survey.ensures.answer t tells ∙ ap Ok c.in-At.is)) c.in_ok-survey.ensures.went c.resume.ensures.went

@@ -1,13 +1,14 @@
-use Rattle.std.proofs.Common.{◌≡◌, OnOk, inl, ℕ, ◌+◌, ◌<◌, List, [], ◌∷◌, length, IfOk, refl, sym, subst}
-use Rattle.disk_model.specs.Calls.{Makes, reads}
+use Rattle.std.proofs.Common.{◌≡◌, inl, ℕ, ◌+◌, ◌<◌, List, [], ◌∷◌, length, IfOk, refl, sym, subst}
+use Rattle.disk_model.specs.Calls.{reads}
 use Rattle.gate_log.specs.Moments.{OldOrNew}
-use Rattle.gate_log.specs.Journal.{Holds, compact_calls}
+use Rattle.gate_log.specs.Journal.{Holds}
 use Rattle.gate_log.specs.declared.fault.LogFault.TheVariants.{Full}
 use Rattle.gate_log.proofs.Moves.{records_are}
 use Rattle.gate_area.proofs.Phases.{stays_leaves}
 use Rattle.vote_journal.proofs.Writing.{body_is, only_error}
-use Rattle.disk_model.specs.Running.{GoesBy}
-use Rattle.gate_log.proofs.Going.{wanted_goes}
+use Rattle.disk_model.specs.Went.{WentBy}
+use Rattle.disk_model.proofs.Went.{went_none, went_wanting}
+use Rattle.gate_log.proofs.Going.{wanted_went}
 use Rattle.gate_log.specs.Operations.{compact_ops, log_ending}
 use Rattle.vote_journal.proofs.compacting.replace_records.Goals as goal
 
@@ -28,11 +29,6 @@ returns-clause-holds g c t u records tells now_tells holds =
     let same = body_is c.push.new.self c.new-body.result c.args.bytes.now c.in_ok-push.ensures.ok c.new-body.ensures in
     subst (λ (b : List ℕ). IfOk c.compact.result (λ next. Holds next (b ∷ []) (reads u))) same (c.compact.ensures.holds t u records tells now_tells holds)
 
-pub returns-clause-calls : goal.returns-clause-calls
-returns-clause-calls g c =
-    let same = body_is c.push.new.self c.new-body.result c.args.bytes.now c.in_ok-push.ensures.ok c.new-body.ensures in
-    subst (λ (b : List ℕ). OnOk c.compact.result (Makes (g.D.Disk.honest c.args.disk.now) (g.D.Disk.told c.args.disk.now) (g.D.Disk.told c.compact.new.disk) (compact_calls c.args.log b))) same c.compact.ensures.calls
-
 pub returns-clause-longer : goal.returns-clause-longer
 returns-clause-longer g c longer =
     let same = body_is c.push.new.self c.new-body.result c.args.bytes.now c.in_ok-push.ensures.ok c.new-body.ensures in
@@ -40,10 +36,11 @@ returns-clause-longer g c longer =
     let is = (c.compact.ensures.full (22 + length c.args.bytes.now)).1 (subst (λ (b : List ℕ). (22 + length c.args.bytes.now ≡ 22 + length b) × (c.args.log.limit < 22 + length c.args.bytes.now)) (sym same) (refl, longer)) in
     (c.compact.ensures.idle over, only_error c.compact.result (Full (22 + length c.args.bytes.now)) is)
 
-pub returns-in_err-push-clause-goes : goal.returns-in_err-push-clause-goes
-returns-in_err-push-clause-goes g c = wanted_goes (compact_ops c.args.log c.args.bytes.now) (g.D.Disk.memory c.args.disk.now) (g.D.Disk.memory c.args.disk.now) c.from_residual.result c.from_residual.ensures.1
+pub returns-in_err-push-clause-went : goal.returns-in_err-push-clause-went
+returns-in_err-push-clause-went g c =
+    wanted_went c.from_residual.result c.from_residual.ensures.1 (went_wanting (compact_ops c.args.log c.args.bytes.now) (went_none g.D.Disk c.args.disk.now))
 
-pub returns-clause-goes : goal.returns-clause-goes
-returns-clause-goes g c =
+pub returns-clause-went : goal.returns-clause-went
+returns-clause-went g c =
     let same = body_is c.push.new.self c.new-body.result c.args.bytes.now c.in_ok-push.ensures.ok c.new-body.ensures in
-    subst (λ (b : List ℕ). GoesBy (compact_ops c.args.log b) (g.D.Disk.memory c.args.disk.now) (g.D.Disk.memory c.compact.new.disk) (log_ending c.compact.result)) same c.compact.ensures.goes
+    subst (λ (b : List ℕ). WentBy g.D.Disk (compact_ops c.args.log b) c.args.disk.now c.compact.new.disk (log_ending c.compact.result)) same c.compact.ensures.went

@@ -6,8 +6,9 @@ use Rattle.gate_log.specs.declared.fault.LogFault.TheVariants.{Full}
 use Rattle.gate_log.proofs.Moves.{records_are}
 use Rattle.gate_area.proofs.Phases.{stays_leaves}
 use Rattle.vote_journal.proofs.Writing.{body_is, only_error}
-use Rattle.disk_model.specs.Running.{GoesBy}
-use Rattle.gate_log.proofs.Going.{wanted_goes}
+use Rattle.disk_model.specs.Went.{WentBy}
+use Rattle.disk_model.proofs.Went.{went_none, went_wanting}
+use Rattle.gate_log.proofs.Going.{wanted_went}
 use Rattle.gate_log.specs.Operations.{append_ops, log_ending}
 use Rattle.vote_journal.proofs.journal.write_record.Goals as goal
 
@@ -35,10 +36,11 @@ returns-clause-holds g c t u records tells now_tells holds =
     let same = body_is c.push.new.self c.new-body.result c.args.bytes.now c.in_ok-push.ensures.ok c.new-body.ensures in
     subst (λ (b : List ℕ). IfOk c.append.result (λ next. Holds next (records ++ b ∷ []) (reads u))) same (c.append.ensures.holds t u records tells now_tells holds)
 
-pub returns-in_err-push-clause-goes : goal.returns-in_err-push-clause-goes
-returns-in_err-push-clause-goes g c = wanted_goes (λ t. append_ops c.args.log c.args.bytes.now) (g.D.Disk.memory c.args.disk.now) (g.D.Disk.memory c.args.disk.now) c.from_residual.result c.from_residual.ensures.1
+pub returns-in_err-push-clause-went : goal.returns-in_err-push-clause-went
+returns-in_err-push-clause-went g c =
+    wanted_went c.from_residual.result c.from_residual.ensures.1 (went_wanting (λ t. append_ops c.args.log c.args.bytes.now) (went_none g.D.Disk c.args.disk.now))
 
-pub returns-clause-goes : goal.returns-clause-goes
-returns-clause-goes g c =
+pub returns-clause-went : goal.returns-clause-went
+returns-clause-went g c =
     let same = body_is c.push.new.self c.new-body.result c.args.bytes.now c.in_ok-push.ensures.ok c.new-body.ensures in
-    subst (λ (b : List ℕ). GoesBy (λ t. append_ops c.args.log b) (g.D.Disk.memory c.args.disk.now) (g.D.Disk.memory c.append.new.disk) (log_ending c.append.result)) same c.append.ensures.goes
+    subst (λ (b : List ℕ). WentBy g.D.Disk (λ t. append_ops c.args.log b) c.args.disk.now c.append.new.disk (log_ending c.append.result)) same c.append.ensures.went

@@ -1,17 +1,20 @@
 use Rattle.std.proofs.Common.{◌≡◌, ◌<◌, ◌+◌, ◌-◌, ◌^◌, [], ◌∷◌, List, ℕ, length, Bool, Option, Some, inl, refl, sym, ap, ◌∙◌, subst, arith}
 use Rattle.disk_model.specs.declared.area.Area.{Area}
-use Rattle.disk_model.specs.Calls.{Told, Tells, Makes, LeavesOnly, IsSettled, and_then, reads}
+use Rattle.disk_model.specs.Calls.{Told, Tells, LeavesOnly, IsSettled, and_then, reads}
 use Rattle.gate_log.specs.Journal.{Log, Holds, compacted}
 use Rattle.gate_area.specs.Standing.{other_of}
 use Rattle.gate_area.specs.Gate.{renew_calls, RenewLeaves}
 use Rattle.gate_log.specs.Moments.{OldOrNew}
 use Rattle.gate_log.specs.Records.{IsShort, area_body}
-use Rattle.gate_log.proofs.Moves.{records_are, after_all}
-use Rattle.gate_log.proofs.Opens.{tells_before}
+use Rattle.gate_log.proofs.Moves.{records_are}
 use Rattle.gate_area.proofs.Phases.{leaves_as, stays_leaves}
 use Rattle.gate_log.proofs.Renewals.{length-body, compact_leaves, next_holds, renewed}
-use Rattle.disk_model.specs.Running.{refused_ending, Passed}
-use Rattle.gate_log.proofs.Going.{compact_idle, compact_goes, refused_goes, wanted_goes}
+use Rattle.disk_model.specs.declared.disk.Disk.{Ghosts}
+use Rattle.disk_model.specs.Running.{Passed}
+use Rattle.disk_model.specs.Went.{WentBy}
+use Rattle.disk_model.proofs.Went.{went_before, went_none, went_told, went_wanting}
+use Rattle.gate_area.specs.Operations.{renew_ops}
+use Rattle.gate_log.proofs.Going.{compact_idle, compact_went, renew_went, refused_went, wanted_went}
 use Rattle.gate_log.specs.Operations.{compact_ops}
 use Rattle.gate_log.proofs.log.GateLog.compact.Goals as goal
 
@@ -75,14 +78,12 @@ log_is area generation end limit inside log r view a b d e =
     same_end inside r = ap (λ x. (let l : Log = record { area = other_of inside.area; generation = inside.generation + 1; end = x; base_end = 22 + length r; limit = inside.limit } in l)) (let n : 22 + length r ≡ 17 + (5 + (length r + 0)) = omega arith in n)
 
 -- what the disk holds then
-holds_next : (honest : Bool) (old now : Option Told) (t u : Told) (log : Log) (records : List (List ℕ)) (r bytes : List ℕ) (area : Area) → IsShort r → log.generation < 2 ^ 64 - 1 → IsSettled t → Holds log records (reads t)
-    → area ≡ other_of log.area → bytes ≡ area_body (log.generation + 1) (r ∷ []) → Makes honest old now (renew_calls area bytes) → Tells old honest t → now ≡ Some u
+holds_next : {D : Type 0} {disk : Ghosts D} {old now : D} (t u : Told) (log : Log) (records : List (List ℕ)) (r bytes : List ℕ) (area : Area) → IsShort r → log.generation < 2 ^ 64 - 1 → IsSettled t → Holds log records (reads t)
+    → area ≡ other_of log.area → bytes ≡ area_body (log.generation + 1) (r ∷ []) → WentBy disk (renew_ops area bytes) old now Passed → Tells (disk.told old) (disk.honest old) t → disk.told now ≡ Some u
     → Holds (compacted log r) (r ∷ []) (reads u)
-holds_next honest old now t u log records r bytes area short low settled holds where_is what_is makes tells is =
+holds_next t u log records r bytes area short low settled holds where_is what_is went tells is =
     let body = area_body (log.generation + 1) (r ∷ []) in
-    let made : Makes honest old now (renew_calls (other_of log.area) body) =
-    subst (λ (b : List ℕ). Makes honest old now (renew_calls (other_of log.area) b)) what_is (subst (λ (a : Area). Makes honest old now (renew_calls a bytes)) where_is makes) in
-    let u_is = after_all honest old now (renew_calls (other_of log.area) body) t u made tells is in
+    let u_is = went_told t u (renew_went log r bytes area where_is what_is went) tells is in
     let done = renewed t (other_of log.area) body (omega (arith, length-body (log.generation + 1) (r ∷ []))) settled in
     subst (λ (x : Told). Holds (compacted log r) (r ∷ []) (reads x)) (sym u_is)
     (next_holds log records r (reads t) (reads (and_then t (renew_calls (other_of log.area) body t))) short low holds done.others done.whole)
@@ -91,45 +92,46 @@ pub returns-clause-holds : goal.returns-clause-holds
 returns-clause-holds g c t u records tells now_tells holds =
     subst (λ (l : Log). Holds l (c.args.body.now ∷ []) (reads u))
     (sym (log_is c.other-area.result (c.self.inside.generation + 1) (17 + c.room-end.result) c.self.inside.limit _ c.args.self c.args.body.now c.self.view_is c.other-area.ensures refl (omega (arith, c.room-end.ensures.room)) refl))
-    (holds_next (g.D.Disk.honest c.args.disk.now) (g.D.Disk.told c.args.disk.now) (g.D.Disk.told c.renew.new.disk) t u c.args.self records c.args.body.now c.deref.result.now c.other-area.result
+    (holds_next t u c.args.self records c.args.body.now c.deref.result.now c.other-area.result
     (omega (arith, c.if-self-end.false, c.room-end.ensures.room, c.self.invariant.2)) c.requires.generation (c.requires.settled t tells) holds
     (c.other-area.ensures ∙ ap (λ (l : Log). other_of l.area) c.self.view_is)
     (c.deref.ensures.value ∙ c.in_ok-bytes.ensures ∙ ap (λ (l : Log). area_body (l.generation + 1) (c.args.body.now ∷ [])) c.self.view_is)
-    c.in_ok-renew.ensures.calls tells now_tells.told)
+    c.in_ok-renew.ensures.went tells now_tells.told)
 
 pub returns-clause-stands : goal.returns-clause-stands
 returns-clause-stands g c u now_tells =
-    let before = tells_before (g.D.Disk.honest c.args.disk.now) (g.D.Disk.honest c.renew.new.disk) (g.D.Disk.told c.args.disk.now) (g.D.Disk.told c.renew.new.disk) (renew_calls c.other-area.result c.deref.result.now) u c.renew.ensures.some c.renew.ensures.honest now_tells in
+    let before = went_before u c.renew.ensures.went now_tells in
     let log = c.requires.log before.0 before.1 in (
       c.args.body.now ∷ [],
       subst (λ (l : Log). Holds l (c.args.body.now ∷ []) (reads u))
           (sym (log_is c.other-area.result (c.self.inside.generation + 1) (17 + c.room-end.result) c.self.inside.limit _ c.args.self c.args.body.now c.self.view_is c.other-area.ensures refl (omega (arith, c.room-end.ensures.room)) refl))
-          (holds_next (g.D.Disk.honest c.args.disk.now) (g.D.Disk.told c.args.disk.now) (g.D.Disk.told c.renew.new.disk) before.0 u c.args.self log.0 c.args.body.now c.deref.result.now c.other-area.result
+          (holds_next before.0 u c.args.self log.0 c.args.body.now c.deref.result.now c.other-area.result
           (omega (arith, c.if-self-end.false, c.room-end.ensures.room, c.self.invariant.2)) c.requires.generation (c.requires.settled before.0 before.1) log.1
           (c.other-area.ensures ∙ ap (λ (l : Log). other_of l.area) c.self.view_is)
           (c.deref.ensures.value ∙ c.in_ok-bytes.ensures ∙ ap (λ (l : Log). area_body (l.generation + 1) (c.args.body.now ∷ [])) c.self.view_is)
-          c.in_ok-renew.ensures.calls before.1 now_tells.told),
+          c.in_ok-renew.ensures.went before.1 now_tells.told),
     )
 
-pub returns-then-self-end-clause-goes : goal.returns-then-self-end-clause-goes
-returns-then-self-end-clause-goes g c =
-    compact_idle c.args.self c.args.body.now (g.D.Disk.memory c.args.disk.now) (g.D.Disk.memory c.args.disk.now) refl
+pub returns-then-self-end-clause-went : goal.returns-then-self-end-clause-went
+returns-then-self-end-clause-went g c =
+    compact_idle g.D.Disk c.args.disk.now c.args.self c.args.body.now g.met.D.Disk.tells
     (omega (arith, c.if-self-end.true, c.room-end.ensures.room, ap (λ (l : Log). l.limit) c.self.view_is))
 
-pub returns-in_err-bytes-clause-goes : goal.returns-in_err-bytes-clause-goes
-returns-in_err-bytes-clause-goes g c = wanted_goes (compact_ops c.args.self c.args.body.now) (g.D.Disk.memory c.args.disk.now) (g.D.Disk.memory c.args.disk.now) c.from_residual.result c.from_residual.ensures.1
+pub returns-in_err-bytes-clause-went : goal.returns-in_err-bytes-clause-went
+returns-in_err-bytes-clause-went g c =
+    wanted_went c.from_residual.result c.from_residual.ensures.1 (went_wanting (compact_ops c.args.self c.args.body.now) (went_none g.D.Disk c.args.disk.now))
 
-pub returns-in_err-renew-clause-goes : goal.returns-in_err-renew-clause-goes
-returns-in_err-renew-clause-goes g c =
-    refused_goes (compact_ops c.args.self c.args.body.now) (g.D.Disk.memory c.args.disk.now) (g.D.Disk.memory c.renew.new.disk) c.in_err-renew.field-0.0 c.from_residual-in_err-renew.result c.from_residual-in_err-renew.ensures.1
-    (compact_goes c.args.self c.args.body.now c.deref.result.now c.other-area.result (g.D.Disk.memory c.args.disk.now) (g.D.Disk.memory c.renew.new.disk) (refused_ending c.in_err-renew.field-0.0)
+pub returns-in_err-renew-clause-went : goal.returns-in_err-renew-clause-went
+returns-in_err-renew-clause-went g c =
+    refused_went c.in_err-renew.field-0.0 c.from_residual-in_err-renew.result c.from_residual-in_err-renew.ensures.1
+    (compact_went c.args.self c.args.body.now c.deref.result.now c.other-area.result g.met.D.Disk.tells
     (c.other-area.ensures ∙ ap (λ (l : Log). other_of l.area) c.self.view_is)
     (c.deref.ensures.value ∙ c.in_ok-bytes.ensures ∙ ap (λ (l : Log). area_body (l.generation + 1) (c.args.body.now ∷ [])) c.self.view_is)
-    (omega (arith, c.if-self-end.false, c.room-end.ensures.room, ap (λ (l : Log). l.limit) c.self.view_is)) c.in_err-renew.ensures.goes)
+    (omega (arith, c.if-self-end.false, c.room-end.ensures.room, ap (λ (l : Log). l.limit) c.self.view_is)) c.in_err-renew.ensures.went)
 
-pub returns-clause-goes : goal.returns-clause-goes
-returns-clause-goes g c =
-    compact_goes c.args.self c.args.body.now c.deref.result.now c.other-area.result (g.D.Disk.memory c.args.disk.now) (g.D.Disk.memory c.renew.new.disk) Passed
+pub returns-clause-went : goal.returns-clause-went
+returns-clause-went g c =
+    compact_went c.args.self c.args.body.now c.deref.result.now c.other-area.result g.met.D.Disk.tells
     (c.other-area.ensures ∙ ap (λ (l : Log). other_of l.area) c.self.view_is)
     (c.deref.ensures.value ∙ c.in_ok-bytes.ensures ∙ ap (λ (l : Log). area_body (l.generation + 1) (c.args.body.now ∷ [])) c.self.view_is)
-    (omega (arith, c.if-self-end.false, c.room-end.ensures.room, ap (λ (l : Log). l.limit) c.self.view_is)) c.in_ok-renew.ensures.goes
+    (omega (arith, c.if-self-end.false, c.room-end.ensures.room, ap (λ (l : Log). l.limit) c.self.view_is)) c.in_ok-renew.ensures.went

@@ -5,14 +5,14 @@ use Rattle.disk_model.specs.Calls.{LeavesOnly, and_then, reads}
 use Rattle.disk_model.proofs.Reading.{area_bytes-and_then, reads_synced}
 use Rattle.gate_area.specs.declared.pair.Pair.TheVariants.{Journal}
 use Rattle.gate_area.specs.Standing.{stands}
-use Rattle.gate_log.specs.Journal.{Holds, IsFound, IsLogOf, find_calls, records_in}
+use Rattle.gate_log.specs.Journal.{Holds, IsFound, IsLogOf, records_in}
 use Rattle.gate_log.specs.Moments.{Finds, SameRecords, refused_as}
-use Rattle.gate_log.proofs.Answering.{errs, finds_refused, if_ok, on_ok}
-use Rattle.gate_log.proofs.Opens.{open_makes, open_some, sync_settles, tells_before}
+use Rattle.gate_log.proofs.Answering.{errs, finds_refused, if_ok}
+use Rattle.gate_log.proofs.Opens.{sync_settles}
 use Rattle.gate_area.proofs.Phases.{synced_tells}
-use Rattle.disk_model.specs.Running.{refused_ending}
-use Rattle.gate_log.proofs.Going.{refused_goes, sync_refused, synced_goes}
-use Rattle.gate_log.specs.Operations.{log_ending, open_ops}
+use Rattle.disk_model.proofs.Went.{went_before, went_call, went_part, never_passes}
+use Rattle.gate_log.proofs.Going.{refused_went, synced_went}
+use Rattle.gate_log.specs.Operations.{find_ops}
 use Rattle.gate_log.proofs.log.GateLog.open.Goals as goal
 
 pub returns-in_err-sync-clause-finds : goal.returns-in_err-sync-clause-finds
@@ -26,43 +26,33 @@ find-requires-clause-settled g c t tells =
 
 pub returns-clause-finds : goal.returns-clause-finds
 returns-clause-finds g c t tells =
-    let mid = synced_tells (g.D.Disk.told c.args.disk.now) (g.D.Disk.told c.sync.new.self) (g.D.Disk.honest c.args.disk.now) (g.D.Disk.honest c.sync.new.self) t c.in_ok-sync.ensures.told c.sync.ensures.honest tells in
+    let mid = synced_tells (g.D.Disk.told c.args.disk.now) (g.D.Disk.told c.sync.new.self) (g.D.Disk.honest c.args.disk.now) (g.D.Disk.honest c.sync.new.self) t c.in_ok-sync.ensures.told c.sync.ensures.did.honest tells in
     subst (λ (areas : Areas). Finds (λ opened. opened.1.items) (records_in areas) c.find.result) (reads_synced t) (c.find.ensures.finds (and_then t (Sync ∷ [])) mid)
 
 pub returns-clause-log : goal.returns-clause-log
 returns-clause-log g c t tells =
-    let mid = synced_tells (g.D.Disk.told c.args.disk.now) (g.D.Disk.told c.sync.new.self) (g.D.Disk.honest c.args.disk.now) (g.D.Disk.honest c.sync.new.self) t c.in_ok-sync.ensures.told c.sync.ensures.honest tells in
+    let mid = synced_tells (g.D.Disk.told c.args.disk.now) (g.D.Disk.told c.sync.new.self) (g.D.Disk.honest c.args.disk.now) (g.D.Disk.honest c.sync.new.self) t c.in_ok-sync.ensures.told c.sync.ensures.did.honest tells in
     subst (λ (areas : Areas). IfOk c.find.result (λ opened. IsFound c.args.limit opened.1.items (stands Journal areas) opened.0)) (reads_synced t) (c.find.ensures.log (and_then t (Sync ∷ [])) mid)
-
-pub returns-clause-calls : goal.returns-clause-calls
-returns-clause-calls g c =
-    on_ok c.find.result c.find.ensures.calls
-    (open_makes (g.D.Disk.honest c.args.disk.now) (g.D.Disk.honest c.sync.new.self) (g.D.Disk.told c.args.disk.now) (g.D.Disk.told c.sync.new.self) (g.D.Disk.told c.find.new.disk) c.in_ok-sync.ensures.told c.sync.ensures.honest)
-
-pub returns-clause-some : goal.returns-clause-some
-returns-clause-some g c =
-    open_some (g.D.Disk.honest c.args.disk.now) (g.D.Disk.honest c.sync.new.self) (g.D.Disk.told c.args.disk.now) (g.D.Disk.told c.sync.new.self) (g.D.Disk.told c.find.new.disk) c.in_ok-sync.ensures.told c.sync.ensures.honest c.find.ensures.some
 
 pub returns-clause-moments : goal.returns-clause-moments
 returns-clause-moments g c t tells =
-    let mid = synced_tells (g.D.Disk.told c.args.disk.now) (g.D.Disk.told c.sync.new.self) (g.D.Disk.honest c.args.disk.now) (g.D.Disk.honest c.sync.new.self) t c.in_ok-sync.ensures.told c.sync.ensures.honest tells in
+    let mid = synced_tells (g.D.Disk.told c.args.disk.now) (g.D.Disk.told c.sync.new.self) (g.D.Disk.honest c.args.disk.now) (g.D.Disk.honest c.sync.new.self) t c.in_ok-sync.ensures.told c.sync.ensures.did.honest tells in
     inr (subst (λ (areas : Areas). LeavesOnly (and_then t (Sync ∷ [])) (g.D.Disk.told c.find.new.disk) (SameRecords areas)) (reads_synced t) (c.find.ensures.moments (and_then t (Sync ∷ [])) mid))
 
 pub returns-clause-holds : goal.returns-clause-holds
 returns-clause-holds g c u tells =
-    let before = tells_before (g.D.Disk.honest c.sync.new.self) (g.D.Disk.honest c.find.new.disk) (g.D.Disk.told c.sync.new.self) (g.D.Disk.told c.find.new.disk) find_calls u c.find.ensures.some c.find.ensures.honest tells in
+    let before = went_before u c.find.ensures.went tells in
     c.find.ensures.holds before.0 u before.1 tells
 
 pub returns-clause-stands : goal.returns-clause-stands
 returns-clause-stands g c u tells =
-    let before = tells_before (g.D.Disk.honest c.sync.new.self) (g.D.Disk.honest c.find.new.disk) (g.D.Disk.told c.sync.new.self) (g.D.Disk.told c.find.new.disk) find_calls u c.find.ensures.some c.find.ensures.honest tells in
+    let before = went_before u c.find.ensures.went tells in
     if_ok c.find.result (λ o. Holds o.0 o.1.items (reads u)) (λ o. IsLogOf o.0 (reads u)) (c.find.ensures.holds before.0 u before.1 tells) (λ o here. (o.1.items, here))
 
-pub returns-in_err-sync-clause-goes : goal.returns-in_err-sync-clause-goes
-returns-in_err-sync-clause-goes g c =
-    refused_goes open_ops (g.D.Disk.memory c.args.disk.now) (g.D.Disk.memory c.sync.new.self) c.in_err-sync.field-0.0 c.from_residual.result c.from_residual.ensures.1
-    (sync_refused (g.D.Disk.memory c.args.disk.now) (g.D.Disk.memory c.sync.new.self) c.in_err-sync.field-0.0 c.in_err-sync.ensures.goes)
+pub returns-in_err-sync-clause-went : goal.returns-in_err-sync-clause-went
+returns-in_err-sync-clause-went g c =
+    refused_went c.in_err-sync.field-0.0 c.from_residual.result c.from_residual.ensures.1
+    (went_part find_ops (never_passes c.in_err-sync.field-0.0) (went_call c.in_err-sync.ensures.did tt c.in_err-sync.ensures.untold))
 
-pub returns-clause-goes : goal.returns-clause-goes
-returns-clause-goes g c =
-    synced_goes (g.D.Disk.memory c.args.disk.now) (g.D.Disk.memory c.sync.new.self) (g.D.Disk.memory c.find.new.disk) (log_ending c.find.result) c.in_ok-sync.ensures.goes c.find.ensures.goes
+pub returns-clause-went : goal.returns-clause-went
+returns-clause-went g c = synced_went g.met.D.Disk.tells (went_call c.in_ok-sync.ensures.did c.in_ok-sync.ensures.told tt) c.find.ensures.went

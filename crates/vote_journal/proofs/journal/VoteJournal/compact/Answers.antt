@@ -2,8 +2,8 @@ use Rattle.std.proofs.Common.{◌≡◌, ◌∙◌, ℕ, ◌+◌, ◌<◌, ◌^�
 use Rattle.std.specs.List.{AllByRecursion}
 use Rattle.disk_model.specs.Calls.{Told, LeavesOnly, reads}
 use Rattle.disk_model.specs.declared.areas.Areas.{Areas}
-use Rattle.gate_log.proofs.Opens.{tells_before}
-use Rattle.gate_log.specs.Journal.{Log, IsLogOf, Holds, compact_calls}
+use Rattle.disk_model.proofs.Went.{went_before, went_none, went_wanting}
+use Rattle.gate_log.specs.Journal.{Log, IsLogOf, Holds}
 use Rattle.gate_log.specs.Moments.{OldOrNew}
 use Rattle.vote_state.specs.State.{taken, nothing_kept, state_changes}
 use Rattle.vote_state.specs.Valid.{IsChange}
@@ -12,11 +12,9 @@ use Rattle.vote_journal.specs.Spelling.{first_bytes}
 use Rattle.vote_journal.specs.Journal.{Journal, Stands, BeforeOrAfter, state_of}
 use Rattle.vote_journal.proofs.Recording.{still, log_stands}
 use Rattle.vote_journal.proofs.Replacing.{kept_epoch, one_record_state, compacting, compacted_stands}
-use Rattle.disk_model.specs.Running.{Passed}
 use Rattle.gate_log.specs.declared.fault.LogFault.{LogFault}
-use Rattle.gate_log.specs.Operations.{fault_ending}
 use Rattle.vote_journal.specs.Operations.{compaction_ops}
-use Rattle.vote_journal.proofs.Going.{compaction_goes, refused_writing, wanted_writing}
+use Rattle.vote_journal.proofs.Going.{compaction_went, refused_writing, wanted_writing}
 use Rattle.vote_journal.proofs.journal.VoteJournal.compact.Goals as goal
 
 pub returns-in_err-changes-clause-moments : goal.returns-in_err-changes-clause-moments
@@ -69,30 +67,30 @@ stood_by t areas j inside next bytes view stands again holds =
 
 pub returns-clause-stands : goal.returns-clause-stands
 returns-clause-stands g c u now_tells =
-    let before = tells_before (g.D.Disk.honest c.args.disk.now) (g.D.Disk.honest c.replace_records.new.disk) (g.D.Disk.told c.args.disk.now) (g.D.Disk.told c.replace_records.new.disk)
-    (compact_calls c.self.inside.log c.bytes-2.result.now) u c.replace_records.ensures.some c.replace_records.ensures.honest now_tells in
+    let before = went_before u c.replace_records.ensures.went now_tells in
     let stands = c.requires.stands before.0 before.1 in
     stood_by before.0 (reads u) c.args.self _ c.in_ok-log.log c.bytes-2.result.now c.self.view_is stands
     (stands_again (reads before.0) c.args.self _ c.in_ok-changes.changes c.bytes-2.result.now c.self.view_is (c.bytes-2.ensures ∙ c.in_ok-bytes.ensures.bytes) c.in_ok-changes.ensures.changes c.in_ok-changes.ensures.valid c.in_ok-changes.ensures.again c.in_ok-bytes.ensures.count stands)
     (λ records holds. c.in_ok-log.ensures.holds before.0 u records before.1 now_tells holds)
 
-pub returns-in_err-changes-clause-goes : goal.returns-in_err-changes-clause-goes
-returns-in_err-changes-clause-goes g c = wanted_writing (compaction_ops c.args.self) (g.D.Disk.memory c.args.disk.now) (g.D.Disk.memory c.args.disk.now) c.from_residual.result c.from_residual.ensures.1
+pub returns-in_err-changes-clause-went : goal.returns-in_err-changes-clause-went
+returns-in_err-changes-clause-went g c = wanted_writing c.from_residual.result c.from_residual.ensures.1 (went_wanting (compaction_ops c.args.self) (went_none g.D.Disk c.args.disk.now))
 
-pub returns-in_err-bytes-clause-goes : goal.returns-in_err-bytes-clause-goes
-returns-in_err-bytes-clause-goes g c = wanted_writing (compaction_ops c.args.self) (g.D.Disk.memory c.args.disk.now) (g.D.Disk.memory c.args.disk.now) c.from_residual-in_err-bytes.result c.from_residual-in_err-bytes.ensures.1
+pub returns-in_err-bytes-clause-went : goal.returns-in_err-bytes-clause-went
+returns-in_err-bytes-clause-went g c =
+    wanted_writing c.from_residual-in_err-bytes.result c.from_residual-in_err-bytes.ensures.1 (went_wanting (compaction_ops c.args.self) (went_none g.D.Disk c.args.disk.now))
 
 abbrev failed_log : LogFault → Result Log LogFault
 failed_log e = Err e
 
-pub returns-in_err-log-clause-goes : goal.returns-in_err-log-clause-goes
-returns-in_err-log-clause-goes g c =
-    refused_writing (compaction_ops c.args.self) (g.D.Disk.memory c.args.disk.now) (g.D.Disk.memory c.replace_records.new.disk) c.in_err-log.field-0.0 c.from_residual-in_err-log.result
+pub returns-in_err-log-clause-went : goal.returns-in_err-log-clause-went
+returns-in_err-log-clause-went g c =
+    refused_writing c.in_err-log.field-0.0 c.from_residual-in_err-log.result
     (λ area at is. c.in_err-log.ensures.undamaged area at (ap failed_log is)) c.from_residual-in_err-log.ensures.1
-    (compaction_goes c.args.self _ c.in_ok-changes.changes c.bytes-2.result.now (g.D.Disk.memory c.args.disk.now) (g.D.Disk.memory c.replace_records.new.disk) (fault_ending c.in_err-log.field-0.0) c.self.view_is
-    (c.bytes-2.ensures ∙ c.in_ok-bytes.ensures.bytes) c.in_ok-changes.ensures.changes c.in_err-log.ensures.goes)
+    (compaction_went c.args.self _ c.in_ok-changes.changes c.bytes-2.result.now c.self.view_is
+    (c.bytes-2.ensures ∙ c.in_ok-bytes.ensures.bytes) c.in_ok-changes.ensures.changes c.in_err-log.ensures.went)
 
-pub returns-clause-goes : goal.returns-clause-goes
-returns-clause-goes g c =
-    compaction_goes c.args.self _ c.in_ok-changes.changes c.bytes-2.result.now (g.D.Disk.memory c.args.disk.now) (g.D.Disk.memory c.replace_records.new.disk) Passed c.self.view_is
-    (c.bytes-2.ensures ∙ c.in_ok-bytes.ensures.bytes) c.in_ok-changes.ensures.changes c.in_ok-log.ensures.goes
+pub returns-clause-went : goal.returns-clause-went
+returns-clause-went g c =
+    compaction_went c.args.self _ c.in_ok-changes.changes c.bytes-2.result.now c.self.view_is
+    (c.bytes-2.ensures ∙ c.in_ok-bytes.ensures.bytes) c.in_ok-changes.ensures.changes c.in_ok-log.ensures.went

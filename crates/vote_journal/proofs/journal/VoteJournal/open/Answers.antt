@@ -5,20 +5,20 @@ use Rattle.gate_area.specs.declared.pair.Pair.TheVariants.{Journal as JournalPai
 use Rattle.gate_area.specs.Standing.{stands}
 use Rattle.gate_log.specs.declared.fault.LogFault.{LogFault}
 use Rattle.gate_log.specs.Records.{end_of}
-use Rattle.gate_log.specs.Journal.{Log, Holds, records_in, open_calls, append_calls}
+use Rattle.gate_log.specs.Journal.{Log, Holds, records_in}
 use Rattle.gate_log.specs.Moments.{SameRecords, SinceSync, Finds, OldOrNew}
-use Rattle.gate_log.proofs.Opens.{tells_before}
+use Rattle.disk_model.specs.Went.{changes}
+use Rattle.disk_model.proofs.Went.{went_before}
 use Rattle.mrp_types.specs.declared.id.NodeId.{NodeId}
 use Rattle.vote_state.specs.State.{State, taken}
 use Rattle.vote_journal.specs.declared.fault.OpenFault.{OpenFault}
 use Rattle.vote_journal.specs.declared.fault.OpenFault.TheVariants.{Memory, EpochLimit}
 use Rattle.vote_journal.specs.Faults.{opened_as}
-use Rattle.vote_journal.specs.Journal.{OpensBy, OpenLeaves, state_of, opened_state, next_epoch, epoch_record, judged_calls}
-use Rattle.vote_journal.proofs.Openings.{with_room, within, judged_are, all_made, first_made, then_made, log_opened, no_log, refused, no_state, no_epoch, no_room, since_as, same_opens, epoch_leaves, opened_stands}
-use Rattle.disk_model.specs.Running.{Passed}
-use Rattle.gate_log.specs.Operations.{fault_ending}
-use Rattle.vote_journal.specs.Operations.{epoch_ops, state_ops, opening_ops}
-use Rattle.vote_journal.proofs.Going.{log_unopened, found_ops, found_refused, epoch_refused, epoch_goes}
+use Rattle.vote_journal.specs.Journal.{OpensBy, OpenLeaves, state_of, opened_state, next_epoch, epoch_record}
+use Rattle.vote_journal.proofs.Openings.{with_room, within, log_opened, no_log, refused, no_state, no_epoch, no_room, since_as, same_opens, epoch_leaves, opened_stands}
+use Rattle.gate_log.specs.Operations.{open_ops}
+use Rattle.vote_journal.specs.Operations.{epoch_ops, state_ops}
+use Rattle.vote_journal.proofs.Going.{log_unopened, found_ops, found_refused, epoch_refused, epoch_went}
 use Rattle.std.specs.declared.alloc.Global.{Global}
 use Rattle.vote_journal.proofs.journal.VoteJournal.open.Goals as goal
 
@@ -67,9 +67,9 @@ pub returns-in_err-log-2-clause-finds : goal.returns-in_err-log-2-clause-finds
 returns-in_err-log-2-clause-finds g c t tells =
     let fault = c.in_err-log-2.field-0.0 in
     let so_far = subst (λ (rs : List (List ℕ)). state_of c.args.id rs ≡ Ok c.in_ok-state.state) c.deref.ensures.value c.in_ok-state.ensures.state in
-    let u = and_then t (open_calls t) in
-    let told = c.in_ok-log.ensures.calls tells.honest ∙ ap (made_by open_calls) tells.told in
-    let holds = c.in_ok-log.ensures.holds u (record { honest = c.open.ensures.honest ∙ tells.honest; told = told }) in
+    let u = and_then t (changes open_ops t) in
+    let told = c.in_ok-log.ensures.went.all refl tells.honest ∙ ap (made_by (changes open_ops)) tells.told in
+    let holds = c.in_ok-log.ensures.holds u (record { honest = c.open.ensures.went.honest ∙ tells.honest; told = told }) in
     let spelled = c.bytes-2.ensures ∙ (c.in_ok-bytes.ensures.bytes ∙ ap (λ (rs : List (List ℕ)). epoch_record c.args.id rs c.in_ok-state.state) c.deref-2.ensures.value) in
     passed_on c.from_residual-in_err-log-2.result (opened_as fault) (opened_as fault) (OpensBy c.args.id c.args.limit (records_in (reads t))) c.from_residual-in_err-log-2.ensures.1 refl
     (no_room (λ opened. opened.1.items) (c.in_ok-log.log, c.in_ok-log.records) c.args.id c.args.limit (records_in (reads t)) c.in_ok-state.state c.in_ok-bytes.durable fault (c.in_ok-log.ensures.finds t tells) so_far c.in_ok-bytes.ensures.state
@@ -79,12 +79,12 @@ returns-in_err-log-2-clause-finds g c t tells =
     (long.0 ∙ (ap (λ n. n + (5 + length c.bytes-2.result.now)) holds.end ∙ ap (λ (b : List ℕ). end_of c.in_ok-log.records.items + (5 + length b)) spelled), subst (λ n. n < len) c.in_ok-log.ensures.limit long.1)))
 
 -- what the record of the epoch leaves, after the log was opened
-both_left : (t : Told) (honest honest' : Bool) (old mid now : Option Told) (id : NodeId) (records : List (List ℕ)) (s : State) (bytes : List ℕ) (log : Log) → Tells old honest t → SinceSync t mid (SameRecords (reads t)) → Makes honest old mid open_calls → honest' ≡ honest
+both_left : (t : Told) (honest honest' : Bool) (old mid now : Option Told) (id : NodeId) (records : List (List ℕ)) (s : State) (bytes : List ℕ) (log : Log) → Tells old honest t → SinceSync t mid (SameRecords (reads t)) → Makes honest old mid (changes open_ops) → honest' ≡ honest
     → ((v : Told) → Tells mid honest' v → Holds log records (reads v)) → records_in (reads t) ≡ Ok records → state_of id records ≡ Ok s → s.epoch + 1 < 2 ^ 32 → bytes ≡ epoch_record id records s
     → ((v : Told) (rs : List (List ℕ)) → Tells mid honest' v → Holds log rs (reads v) → LeavesOnly v now (OldOrNew rs (rs ++ bytes ∷ []) (reads v))) → SinceSync t now (OpenLeaves id (reads t))
 both_left t honest honest' old mid now id records s bytes log tells since makes same holds found is fits spelled leaves =
-    let u = and_then t (open_calls t) in
-    let told : mid ≡ Some u = makes tells.honest ∙ ap (made_by open_calls) tells.told in
+    let u = and_then t (changes open_ops t) in
+    let told : mid ≡ Some u = makes tells.honest ∙ ap (made_by (changes open_ops)) tells.told in
     let now_tells : Tells mid honest' u = record { honest = same ∙ tells.honest; told = told } in
     epoch_leaves t u mid now id records s since told refl found is fits
     (subst (λ (b : List ℕ). LeavesOnly u now (OldOrNew records (records ++ b ∷ []) (reads u))) spelled (leaves u records now_tells (holds u now_tells)))
@@ -97,7 +97,7 @@ listed_are listed x (Err spot) is = absurd is
 pub returns-in_err-log-2-clause-moments : goal.returns-in_err-log-2-clause-moments
 returns-in_err-log-2-clause-moments g c t tells =
     both_left t (g.D.Disk.honest c.args.disk.now) (g.D.Disk.honest c.open.new.disk) (g.D.Disk.told c.args.disk.now) (g.D.Disk.told c.open.new.disk) (g.D.Disk.told c.write_record.new.disk) c.args.id c.in_ok-log.records.items c.in_ok-state.state c.bytes-2.result.now c.in_ok-log.log
-    tells (c.open.ensures.moments t tells) c.in_ok-log.ensures.calls c.open.ensures.honest c.in_ok-log.ensures.holds
+    tells (c.open.ensures.moments t tells) (c.in_ok-log.ensures.went.all refl) c.open.ensures.went.honest c.in_ok-log.ensures.holds
     (listed_are (λ opened. opened.1.items) (c.in_ok-log.log, c.in_ok-log.records) (records_in (reads t)) (c.in_ok-log.ensures.finds t tells))
     (subst (λ (rs : List (List ℕ)). state_of c.args.id rs ≡ Ok c.in_ok-state.state) c.deref.ensures.value c.in_ok-state.ensures.state) c.in_ok-bytes.ensures.fits
     (c.bytes-2.ensures ∙ (c.in_ok-bytes.ensures.bytes ∙ ap (λ (rs : List (List ℕ)). epoch_record c.args.id rs c.in_ok-state.state) c.deref-2.ensures.value))
@@ -106,7 +106,7 @@ returns-in_err-log-2-clause-moments g c t tells =
 pub returns-clause-moments : goal.returns-clause-moments
 returns-clause-moments g c t tells =
     both_left t (g.D.Disk.honest c.args.disk.now) (g.D.Disk.honest c.open.new.disk) (g.D.Disk.told c.args.disk.now) (g.D.Disk.told c.open.new.disk) (g.D.Disk.told c.write_record.new.disk) c.args.id c.in_ok-log.records.items c.in_ok-state.state c.bytes-2.result.now c.in_ok-log.log
-    tells (c.open.ensures.moments t tells) c.in_ok-log.ensures.calls c.open.ensures.honest c.in_ok-log.ensures.holds
+    tells (c.open.ensures.moments t tells) (c.in_ok-log.ensures.went.all refl) c.open.ensures.went.honest c.in_ok-log.ensures.holds
     (listed_are (λ opened. opened.1.items) (c.in_ok-log.log, c.in_ok-log.records) (records_in (reads t)) (c.in_ok-log.ensures.finds t tells))
     (subst (λ (rs : List (List ℕ)). state_of c.args.id rs ≡ Ok c.in_ok-state.state) c.deref.ensures.value c.in_ok-state.ensures.state) c.in_ok-bytes.ensures.fits
     (c.bytes-2.ensures ∙ (c.in_ok-bytes.ensures.bytes ∙ ap (λ (rs : List (List ℕ)). epoch_record c.args.id rs c.in_ok-state.state) c.deref-2.ensures.value))
@@ -122,8 +122,7 @@ made_is old s h = by_test (old.epoch == 2 ^ 32 - 1) h
 
 pub returns-clause-stands : goal.returns-clause-stands
 returns-clause-stands g c u now_tells =
-    let before = tells_before (g.D.Disk.honest c.open.new.disk) (g.D.Disk.honest c.write_record.new.disk) (g.D.Disk.told c.open.new.disk) (g.D.Disk.told c.write_record.new.disk)
-    (λ t. append_calls c.in_ok-log.log c.bytes-2.result.now) u c.write_record.ensures.some c.write_record.ensures.honest now_tells in
+    let before = went_before u c.write_record.ensures.went now_tells in
     let records = c.in_ok-log.records.items in
     opened_stands c.args.id c.in_ok-log-2.log records c.in_ok-state.state c.in_ok-bytes.durable c.bytes-2.result.now (reads u)
     (c.bytes-2.ensures ∙ (c.in_ok-bytes.ensures.bytes ∙ ap (λ (rs : List (List ℕ)). epoch_record c.args.id rs c.in_ok-state.state) c.deref-2.ensures.value))
@@ -135,9 +134,9 @@ returns-clause-stands g c u now_tells =
 pub returns-clause-finds : goal.returns-clause-finds
 returns-clause-finds g c t tells =
     let so_far = subst (λ (rs : List (List ℕ)). state_of c.args.id rs ≡ Ok c.in_ok-state.state) c.deref.ensures.value c.in_ok-state.ensures.state in
-    let u = and_then t (open_calls t) in
-    let told = c.in_ok-log.ensures.calls tells.honest ∙ ap (made_by open_calls) tells.told in
-    let holds = c.in_ok-log.ensures.holds u (record { honest = c.open.ensures.honest ∙ tells.honest; told = told }) in
+    let u = and_then t (changes open_ops t) in
+    let told = c.in_ok-log.ensures.went.all refl tells.honest ∙ ap (made_by (changes open_ops)) tells.told in
+    let holds = c.in_ok-log.ensures.holds u (record { honest = c.open.ensures.went.honest ∙ tells.honest; told = told }) in
     let spelled = c.bytes-2.ensures ∙ (c.in_ok-bytes.ensures.bytes ∙ ap (λ (rs : List (List ℕ)). epoch_record c.args.id rs c.in_ok-state.state) c.deref-2.ensures.value) in
     let log = c.in_ok-log-2.ensures.log in
     let end : c.in_ok-log-2.log.end ≡ c.in_ok-log.log.end + (5 + length c.bytes-2.result.now) = ap (λ (l : Log). l.end) log in
@@ -163,54 +162,6 @@ returns-clause-log g c t tells =
     c.in_ok-log-2.ensures.log
     (c.bytes-2.ensures ∙ (c.in_ok-bytes.ensures.bytes ∙ ap (λ (rs : List (List ℕ)). epoch_record c.args.id rs c.in_ok-state.state) c.deref-2.ensures.value))
 
-pub returns-clause-calls : goal.returns-clause-calls
-returns-clause-calls g c =
-    all_made (g.D.Disk.honest c.args.disk.now) (g.D.Disk.honest c.open.new.disk) (g.D.Disk.told c.args.disk.now) (g.D.Disk.told c.open.new.disk) (g.D.Disk.told c.write_record.new.disk)
-    open_calls (λ t. judged_calls c.args.id c.args.limit (stands JournalPair (reads t)) (records_in (reads t))) (append_calls c.in_ok-log.log c.bytes-2.result.now)
-    c.open.ensures.honest c.in_ok-log.ensures.calls c.in_ok-log-2.ensures.calls
-    (λ t tells.
-    judged_are c.args.id c.args.limit (stands JournalPair (reads t)) (records_in (reads t)) c.in_ok-log.records.items c.in_ok-state.state c.in_ok-log.log c.bytes-2.result.now (c.in_ok-log.ensures.log t tells)
-    (listed_are (λ opened. opened.1.items) (c.in_ok-log.log, c.in_ok-log.records) (records_in (reads t)) (c.in_ok-log.ensures.finds t tells))
-    (subst (λ (rs : List (List ℕ)). state_of c.args.id rs ≡ Ok c.in_ok-state.state) c.deref.ensures.value c.in_ok-state.ensures.state)
-    (c.bytes-2.ensures ∙ (c.in_ok-bytes.ensures.bytes ∙ ap (λ (rs : List (List ℕ)). epoch_record c.args.id rs c.in_ok-state.state) c.deref-2.ensures.value)))
-
-pub returns-clause-some : goal.returns-clause-some
-returns-clause-some g c =
-    then_made (g.D.Disk.honest c.args.disk.now) (g.D.Disk.honest c.open.new.disk) (g.D.Disk.told c.args.disk.now) (g.D.Disk.told c.open.new.disk) (g.D.Disk.told c.write_record.new.disk)
-    open_calls (λ t. judged_calls c.args.id c.args.limit (stands JournalPair (reads t)) (records_in (reads t))) (append_calls c.in_ok-log.log c.bytes-2.result.now)
-    c.open.ensures.honest c.in_ok-log.ensures.calls c.write_record.ensures.some
-    (λ t tells.
-    judged_are c.args.id c.args.limit (stands JournalPair (reads t)) (records_in (reads t)) c.in_ok-log.records.items c.in_ok-state.state c.in_ok-log.log c.bytes-2.result.now (c.in_ok-log.ensures.log t tells)
-    (listed_are (λ opened. opened.1.items) (c.in_ok-log.log, c.in_ok-log.records) (records_in (reads t)) (c.in_ok-log.ensures.finds t tells))
-    (subst (λ (rs : List (List ℕ)). state_of c.args.id rs ≡ Ok c.in_ok-state.state) c.deref.ensures.value c.in_ok-state.ensures.state)
-    (c.bytes-2.ensures ∙ (c.in_ok-bytes.ensures.bytes ∙ ap (λ (rs : List (List ℕ)). epoch_record c.args.id rs c.in_ok-state.state) c.deref-2.ensures.value)))
-
-pub returns-in_err-log-2-clause-some : goal.returns-in_err-log-2-clause-some
-returns-in_err-log-2-clause-some g c =
-    then_made (g.D.Disk.honest c.args.disk.now) (g.D.Disk.honest c.open.new.disk) (g.D.Disk.told c.args.disk.now) (g.D.Disk.told c.open.new.disk) (g.D.Disk.told c.write_record.new.disk)
-    open_calls (λ t. judged_calls c.args.id c.args.limit (stands JournalPair (reads t)) (records_in (reads t))) (append_calls c.in_ok-log.log c.bytes-2.result.now)
-    c.open.ensures.honest c.in_ok-log.ensures.calls c.write_record.ensures.some
-    (λ t tells.
-    judged_are c.args.id c.args.limit (stands JournalPair (reads t)) (records_in (reads t)) c.in_ok-log.records.items c.in_ok-state.state c.in_ok-log.log c.bytes-2.result.now (c.in_ok-log.ensures.log t tells)
-    (listed_are (λ opened. opened.1.items) (c.in_ok-log.log, c.in_ok-log.records) (records_in (reads t)) (c.in_ok-log.ensures.finds t tells))
-    (subst (λ (rs : List (List ℕ)). state_of c.args.id rs ≡ Ok c.in_ok-state.state) c.deref.ensures.value c.in_ok-state.ensures.state)
-    (c.bytes-2.ensures ∙ (c.in_ok-bytes.ensures.bytes ∙ ap (λ (rs : List (List ℕ)). epoch_record c.args.id rs c.in_ok-state.state) c.deref-2.ensures.value)))
-
-pub returns-in_err-log-clause-some : goal.returns-in_err-log-clause-some
-returns-in_err-log-clause-some g c =
-    first_made (g.D.Disk.honest c.args.disk.now) (g.D.Disk.told c.args.disk.now) (g.D.Disk.told c.open.new.disk)
-    open_calls (λ t. judged_calls c.args.id c.args.limit (stands JournalPair (reads t)) (records_in (reads t))) c.open.ensures.some
-
-pub returns-in_err-state-clause-some : goal.returns-in_err-state-clause-some
-returns-in_err-state-clause-some g c =
-    first_made (g.D.Disk.honest c.args.disk.now) (g.D.Disk.told c.args.disk.now) (g.D.Disk.told c.open.new.disk)
-    open_calls (λ t. judged_calls c.args.id c.args.limit (stands JournalPair (reads t)) (records_in (reads t))) c.open.ensures.some
-
-pub returns-in_err-bytes-clause-some : goal.returns-in_err-bytes-clause-some
-returns-in_err-bytes-clause-some g c =
-    first_made (g.D.Disk.honest c.args.disk.now) (g.D.Disk.told c.args.disk.now) (g.D.Disk.told c.open.new.disk)
-    open_calls (λ t. judged_calls c.args.id c.args.limit (stands JournalPair (reads t)) (records_in (reads t))) c.open.ensures.some
-
 abbrev failed_opening : LogFault → Result (Log × Vec (List ℕ) Global) LogFault
 failed_opening e = Err e
 
@@ -220,10 +171,10 @@ failed_state e = Err e
 abbrev failed_bytes : OpenFault → Result (List ℕ × State) OpenFault
 failed_bytes e = Err e
 
-pub returns-in_err-log-clause-goes : goal.returns-in_err-log-clause-goes
-returns-in_err-log-clause-goes g c =
-    log_unopened (λ opened. opened.1.items) c.args.id c.args.limit c.in_err-log.field-0.0 c.from_residual.result (g.D.Disk.memory c.args.disk.now) (g.D.Disk.memory c.open.new.disk)
-    (λ d is. c.in_err-log.ensures.finds d.told (g.met.D.Disk.tells c.args.disk.now d is)) (λ len is. c.in_err-log.ensures.full len (ap failed_opening is)) c.from_residual.ensures.1 c.in_err-log.ensures.goes
+pub returns-in_err-log-clause-went : goal.returns-in_err-log-clause-went
+returns-in_err-log-clause-went g c =
+    log_unopened (λ opened. opened.1.items) c.args.id c.args.limit c.in_err-log.field-0.0 c.from_residual.result g.met.D.Disk.tells
+    c.in_err-log.ensures.finds (λ len is. c.in_err-log.ensures.full len (ap failed_opening is)) c.from_residual.ensures.1 c.in_err-log.ensures.went
 
 -- why the records are refused
 no_ops : (id : NodeId) (log : Log) (records : List (List ℕ)) (fault : OpenFault) → state_of id records ≡ Err fault → state_ops id log records (state_of id records) ≡ []
@@ -233,54 +184,54 @@ no_ops id log records fault is = ap (state_ops id log records) is
 no_more_ops : (id : NodeId) (log : Log) (records : List (List ℕ)) (s : State) (fault : OpenFault) → state_of id records ≡ Ok s → opened_state s ≡ Err fault → state_ops id log records (state_of id records) ≡ []
 no_more_ops id log records s fault so_far is = ap (state_ops id log records) so_far ∙ ap (epoch_ops log (epoch_record id records s)) is
 
-pub returns-in_err-state-clause-goes : goal.returns-in_err-state-clause-goes
-returns-in_err-state-clause-goes g c =
+pub returns-in_err-state-clause-went : goal.returns-in_err-state-clause-went
+returns-in_err-state-clause-went g c =
     let records = c.in_ok-log.records.items in
     let fault = c.in_err-state.field-0.0 in
-    found_refused c.args.id c.args.limit fault c.from_residual-in_err-state.result (g.D.Disk.memory c.args.disk.now) (g.D.Disk.memory c.open.new.disk) (λ is. c.in_err-state.ensures.bytes (ap failed_state is)) c.from_residual-in_err-state.ensures.1
+    found_refused c.args.id c.args.limit fault c.from_residual-in_err-state.result g.met.D.Disk.tells (λ is. c.in_err-state.ensures.bytes (ap failed_state is)) c.from_residual-in_err-state.ensures.1
     (elim (subst (λ (rs : List (List ℕ)). (fault ≡ Memory) ⊎ (state_of c.args.id rs ≡ Err fault)) c.deref.ensures.value c.in_err-state.ensures.state) [
       | inl memory ↦ inl memory
-      | inr is ↦ inr (λ d same.
-          found_ops c.args.id c.args.limit (stands JournalPair (reads d.told)) (records_in (reads d.told)) records c.in_ok-log.log (c.in_ok-log.ensures.log d.told (g.met.D.Disk.tells c.args.disk.now d same))
-          (listed_are (λ opened. opened.1.items) (c.in_ok-log.log, c.in_ok-log.records) (records_in (reads d.told)) (c.in_ok-log.ensures.finds d.told (g.met.D.Disk.tells c.args.disk.now d same)))
+      | inr is ↦ inr (λ t tells.
+          found_ops c.args.id c.args.limit (stands JournalPair (reads t)) (records_in (reads t)) records c.in_ok-log.log (c.in_ok-log.ensures.log t tells)
+          (listed_are (λ opened. opened.1.items) (c.in_ok-log.log, c.in_ok-log.records) (records_in (reads t)) (c.in_ok-log.ensures.finds t tells))
           ∙ no_ops c.args.id c.in_ok-log.log records fault is)
     ])
-    c.in_ok-log.ensures.goes
+    c.in_ok-log.ensures.went
 
-pub returns-in_err-bytes-clause-goes : goal.returns-in_err-bytes-clause-goes
-returns-in_err-bytes-clause-goes g c =
+pub returns-in_err-bytes-clause-went : goal.returns-in_err-bytes-clause-went
+returns-in_err-bytes-clause-went g c =
     let records = c.in_ok-log.records.items in
     let fault = c.in_err-bytes.field-0.0 in
     let so_far = subst (λ (rs : List (List ℕ)). state_of c.args.id rs ≡ Ok c.in_ok-state.state) c.deref.ensures.value c.in_ok-state.ensures.state in
-    found_refused c.args.id c.args.limit fault c.from_residual-in_err-bytes.result (g.D.Disk.memory c.args.disk.now) (g.D.Disk.memory c.open.new.disk) (λ is. c.in_err-bytes.ensures.memory (ap failed_bytes is)) c.from_residual-in_err-bytes.ensures.1
+    found_refused c.args.id c.args.limit fault c.from_residual-in_err-bytes.result g.met.D.Disk.tells (λ is. c.in_err-bytes.ensures.memory (ap failed_bytes is)) c.from_residual-in_err-bytes.ensures.1
     (elim c.in_err-bytes.ensures.state [
       | inl memory ↦ inl memory
-      | inr is ↦ inr (λ d same.
-          found_ops c.args.id c.args.limit (stands JournalPair (reads d.told)) (records_in (reads d.told)) records c.in_ok-log.log (c.in_ok-log.ensures.log d.told (g.met.D.Disk.tells c.args.disk.now d same))
-          (listed_are (λ opened. opened.1.items) (c.in_ok-log.log, c.in_ok-log.records) (records_in (reads d.told)) (c.in_ok-log.ensures.finds d.told (g.met.D.Disk.tells c.args.disk.now d same)))
+      | inr is ↦ inr (λ t tells.
+          found_ops c.args.id c.args.limit (stands JournalPair (reads t)) (records_in (reads t)) records c.in_ok-log.log (c.in_ok-log.ensures.log t tells)
+          (listed_are (λ opened. opened.1.items) (c.in_ok-log.log, c.in_ok-log.records) (records_in (reads t)) (c.in_ok-log.ensures.finds t tells))
           ∙ no_more_ops c.args.id c.in_ok-log.log records c.in_ok-state.state fault so_far is)
     ])
-    c.in_ok-log.ensures.goes
+    c.in_ok-log.ensures.went
 
-pub returns-in_err-log-2-clause-goes : goal.returns-in_err-log-2-clause-goes
-returns-in_err-log-2-clause-goes g c =
+pub returns-in_err-log-2-clause-went : goal.returns-in_err-log-2-clause-went
+returns-in_err-log-2-clause-went g c =
     let records = c.in_ok-log.records.items in
-    epoch_refused (opening_ops c.args.id c.args.limit) (g.D.Disk.memory c.args.disk.now) (g.D.Disk.memory c.write_record.new.disk) c.in_err-log-2.field-0.0 c.from_residual-in_err-log-2.result c.from_residual-in_err-log-2.ensures.1
-    (epoch_goes c.args.id c.args.limit records c.in_ok-state.state c.in_ok-bytes.durable c.in_ok-log.log c.bytes-2.result.now (g.D.Disk.memory c.args.disk.now) (g.D.Disk.memory c.open.new.disk) (g.D.Disk.memory c.write_record.new.disk) (fault_ending c.in_err-log-2.field-0.0)
+    epoch_refused c.in_err-log-2.field-0.0 c.from_residual-in_err-log-2.result c.from_residual-in_err-log-2.ensures.1
+    (epoch_went c.args.id c.args.limit records c.in_ok-state.state c.in_ok-bytes.durable c.in_ok-log.log c.bytes-2.result.now g.met.D.Disk.tells
     (subst (λ (rs : List (List ℕ)). state_of c.args.id rs ≡ Ok c.in_ok-state.state) c.deref.ensures.value c.in_ok-state.ensures.state) c.in_ok-bytes.ensures.state
     (c.bytes-2.ensures ∙ (c.in_ok-bytes.ensures.bytes ∙ ap (λ (rs : List (List ℕ)). epoch_record c.args.id rs c.in_ok-state.state) c.deref-2.ensures.value))
-    (λ d same.
-    found_ops c.args.id c.args.limit (stands JournalPair (reads d.told)) (records_in (reads d.told)) records c.in_ok-log.log (c.in_ok-log.ensures.log d.told (g.met.D.Disk.tells c.args.disk.now d same))
-    (listed_are (λ opened. opened.1.items) (c.in_ok-log.log, c.in_ok-log.records) (records_in (reads d.told)) (c.in_ok-log.ensures.finds d.told (g.met.D.Disk.tells c.args.disk.now d same))))
-    c.in_ok-log.ensures.goes c.in_err-log-2.ensures.goes)
+    (λ t tells.
+    found_ops c.args.id c.args.limit (stands JournalPair (reads t)) (records_in (reads t)) records c.in_ok-log.log (c.in_ok-log.ensures.log t tells)
+    (listed_are (λ opened. opened.1.items) (c.in_ok-log.log, c.in_ok-log.records) (records_in (reads t)) (c.in_ok-log.ensures.finds t tells)))
+    c.in_ok-log.ensures.went c.in_err-log-2.ensures.went)
 
-pub returns-clause-goes : goal.returns-clause-goes
-returns-clause-goes g c =
+pub returns-clause-went : goal.returns-clause-went
+returns-clause-went g c =
     let records = c.in_ok-log.records.items in
-    epoch_goes c.args.id c.args.limit records c.in_ok-state.state c.in_ok-bytes.durable c.in_ok-log.log c.bytes-2.result.now (g.D.Disk.memory c.args.disk.now) (g.D.Disk.memory c.open.new.disk) (g.D.Disk.memory c.write_record.new.disk) Passed
+    epoch_went c.args.id c.args.limit records c.in_ok-state.state c.in_ok-bytes.durable c.in_ok-log.log c.bytes-2.result.now g.met.D.Disk.tells
     (subst (λ (rs : List (List ℕ)). state_of c.args.id rs ≡ Ok c.in_ok-state.state) c.deref.ensures.value c.in_ok-state.ensures.state) c.in_ok-bytes.ensures.state
     (c.bytes-2.ensures ∙ (c.in_ok-bytes.ensures.bytes ∙ ap (λ (rs : List (List ℕ)). epoch_record c.args.id rs c.in_ok-state.state) c.deref-2.ensures.value))
-    (λ d same.
-    found_ops c.args.id c.args.limit (stands JournalPair (reads d.told)) (records_in (reads d.told)) records c.in_ok-log.log (c.in_ok-log.ensures.log d.told (g.met.D.Disk.tells c.args.disk.now d same))
-    (listed_are (λ opened. opened.1.items) (c.in_ok-log.log, c.in_ok-log.records) (records_in (reads d.told)) (c.in_ok-log.ensures.finds d.told (g.met.D.Disk.tells c.args.disk.now d same))))
-    c.in_ok-log.ensures.goes c.in_ok-log-2.ensures.goes
+    (λ t tells.
+    found_ops c.args.id c.args.limit (stands JournalPair (reads t)) (records_in (reads t)) records c.in_ok-log.log (c.in_ok-log.ensures.log t tells)
+    (listed_are (λ opened. opened.1.items) (c.in_ok-log.log, c.in_ok-log.records) (records_in (reads t)) (c.in_ok-log.ensures.finds t tells)))
+    c.in_ok-log.ensures.went c.in_ok-log-2.ensures.went

@@ -4,8 +4,8 @@ use Rattle.std.proofs.lemmas.Grind.{common_steps}
 use Rattle.std.specs.List.{AllByRecursion}
 use Rattle.disk_model.specs.Calls.{Told, LeavesOnly, reads}
 use Rattle.disk_model.specs.declared.areas.Areas.{Areas}
-use Rattle.gate_log.proofs.Opens.{tells_before}
-use Rattle.gate_log.specs.Journal.{Log, IsLogOf, Holds, append_calls}
+use Rattle.disk_model.proofs.Went.{went_before, went_none, went_wanting}
+use Rattle.gate_log.specs.Journal.{Log, IsLogOf, Holds}
 use Rattle.gate_log.specs.Moments.{OldOrNew}
 use Rattle.vote_state.specs.State.{State, taken}
 use Rattle.vote_journal.specs.Spelling.{record_bytes}
@@ -14,11 +14,9 @@ use Rattle.vote_journal.specs.Epochs.{epochs_rise}
 use Rattle.vote_state.specs.Valid.{IsChange}
 use Rattle.vote_state.specs.declared.change.Change.{Change}
 use Rattle.vote_journal.proofs.Recording.{IsCounted, still, recording, log_stands, recorded_stands}
-use Rattle.disk_model.specs.Running.{Passed}
 use Rattle.gate_log.specs.declared.fault.LogFault.{LogFault}
-use Rattle.gate_log.specs.Operations.{fault_ending}
 use Rattle.vote_journal.specs.Operations.{record_ops}
-use Rattle.vote_journal.proofs.Going.{none_recorded, record_goes, refused_writing, wanted_writing}
+use Rattle.vote_journal.proofs.Going.{none_recorded, record_went, refused_writing, wanted_writing}
 use Rattle.vote_journal.proofs.journal.VoteJournal.record.Goals as goal
 
 pub returns-then-is_empty-clause-moments : goal.returns-then-is_empty-clause-moments
@@ -68,32 +66,32 @@ stood_by t areas j inside next s cs bytes view spelled made counted each rise st
 
 pub returns-clause-stands : goal.returns-clause-stands
 returns-clause-stands g c u now_tells =
-    let before = tells_before (g.D.Disk.honest c.args.disk.now) (g.D.Disk.honest c.write_record.new.disk) (g.D.Disk.told c.args.disk.now) (g.D.Disk.told c.write_record.new.disk)
-    (λ t. append_calls c.self.inside.log c.bytes-2.result.now) u c.write_record.ensures.some c.write_record.ensures.honest now_tells in
+    let before = went_before u c.write_record.ensures.went now_tells in
     stood_by before.0 (reads u) c.args.self _ c.in_ok-log.log c.take.new.self c.args.changes.now c.bytes-2.result.now c.self.view_is (c.bytes-2.ensures ∙ c.in_ok-bytes.ensures.bytes) c.in_ok-take.ensures (record { some = grind (arith, common_steps, c.if-is_empty.false, c.is_empty.ensures, c.items.ensures); fits = c.in_ok-bytes.ensures.count }) c.requires.changes c.requires.epochs (c.requires.stands before.0 before.1)
     (λ records holds. c.in_ok-log.ensures.holds before.0 u records before.1 now_tells holds)
 
-pub returns-then-is_empty-clause-goes : goal.returns-then-is_empty-clause-goes
-returns-then-is_empty-clause-goes g c =
-    none_recorded c.args.self c.args.changes.now (g.D.Disk.memory c.args.disk.now) (g.D.Disk.memory c.args.disk.now) refl (grind (arith, common_steps, c.if-is_empty.true, c.is_empty.ensures, c.items.ensures))
+pub returns-then-is_empty-clause-went : goal.returns-then-is_empty-clause-went
+returns-then-is_empty-clause-went g c = none_recorded g.D.Disk c.args.disk.now c.args.self c.args.changes.now (grind (arith, common_steps, c.if-is_empty.true, c.is_empty.ensures, c.items.ensures))
 
-pub returns-in_err-bytes-clause-goes : goal.returns-in_err-bytes-clause-goes
-returns-in_err-bytes-clause-goes g c = wanted_writing (λ t. record_ops c.args.self c.args.changes.now) (g.D.Disk.memory c.args.disk.now) (g.D.Disk.memory c.args.disk.now) c.from_residual.result c.from_residual.ensures.1
+pub returns-in_err-bytes-clause-went : goal.returns-in_err-bytes-clause-went
+returns-in_err-bytes-clause-went g c =
+    wanted_writing c.from_residual.result c.from_residual.ensures.1 (went_wanting (λ t. record_ops c.args.self c.args.changes.now) (went_none g.D.Disk c.args.disk.now))
 
-pub returns-in_err-take-clause-goes : goal.returns-in_err-take-clause-goes
-returns-in_err-take-clause-goes g c = wanted_writing (λ t. record_ops c.args.self c.args.changes.now) (g.D.Disk.memory c.args.disk.now) (g.D.Disk.memory c.args.disk.now) c.from_residual-in_err-take.result c.from_residual-in_err-take.ensures.1
+pub returns-in_err-take-clause-went : goal.returns-in_err-take-clause-went
+returns-in_err-take-clause-went g c =
+    wanted_writing c.from_residual-in_err-take.result c.from_residual-in_err-take.ensures.1 (went_wanting (λ t. record_ops c.args.self c.args.changes.now) (went_none g.D.Disk c.args.disk.now))
 
 abbrev failed_log : LogFault → Result Log LogFault
 failed_log e = Err e
 
-pub returns-in_err-log-clause-goes : goal.returns-in_err-log-clause-goes
-returns-in_err-log-clause-goes g c =
-    refused_writing (λ t. record_ops c.args.self c.args.changes.now) (g.D.Disk.memory c.args.disk.now) (g.D.Disk.memory c.write_record.new.disk) c.in_err-log.field-0.0 c.from_residual-in_err-log.result
+pub returns-in_err-log-clause-went : goal.returns-in_err-log-clause-went
+returns-in_err-log-clause-went g c =
+    refused_writing c.in_err-log.field-0.0 c.from_residual-in_err-log.result
     (λ area at is. c.in_err-log.ensures.undamaged area at (ap failed_log is)) c.from_residual-in_err-log.ensures.1
-    (record_goes c.args.self _ c.args.changes.now c.bytes-2.result.now (g.D.Disk.memory c.args.disk.now) (g.D.Disk.memory c.write_record.new.disk) (fault_ending c.in_err-log.field-0.0) c.self.view_is (c.bytes-2.ensures ∙ c.in_ok-bytes.ensures.bytes)
-    (grind (arith, common_steps, c.if-is_empty.false, c.is_empty.ensures, c.items.ensures)) c.in_err-log.ensures.goes)
+    (record_went c.args.self _ c.args.changes.now c.bytes-2.result.now c.self.view_is (c.bytes-2.ensures ∙ c.in_ok-bytes.ensures.bytes)
+    (grind (arith, common_steps, c.if-is_empty.false, c.is_empty.ensures, c.items.ensures)) c.in_err-log.ensures.went)
 
-pub returns-clause-goes : goal.returns-clause-goes
-returns-clause-goes g c =
-    record_goes c.args.self _ c.args.changes.now c.bytes-2.result.now (g.D.Disk.memory c.args.disk.now) (g.D.Disk.memory c.write_record.new.disk) Passed c.self.view_is (c.bytes-2.ensures ∙ c.in_ok-bytes.ensures.bytes)
-    (grind (arith, common_steps, c.if-is_empty.false, c.is_empty.ensures, c.items.ensures)) c.in_ok-log.ensures.goes
+pub returns-clause-went : goal.returns-clause-went
+returns-clause-went g c =
+    record_went c.args.self _ c.args.changes.now c.bytes-2.result.now c.self.view_is (c.bytes-2.ensures ∙ c.in_ok-bytes.ensures.bytes)
+    (grind (arith, common_steps, c.if-is_empty.false, c.is_empty.ensures, c.items.ensures)) c.in_ok-log.ensures.went
