@@ -14,7 +14,7 @@ ghost use Rattle.transcript.specs.Reading.{line_at};
 ghost use Rattle.verdicts.specs.Texts.{verdict_of, frame_fault_text, codec_fault_text, config_fault_text, schedule_fault_text, line_fault_text};
 
 use crate::faults::{codec_fault, config_fault, frame_fault, line_fault, said, schedule_fault};
-use command_codec::limits::VALUE;
+use mrp_types::limits::VALUE;
 use command_codec::{
     Command, read_batch, read_command, read_reply, write_batch, write_command, write_reply,
 };
