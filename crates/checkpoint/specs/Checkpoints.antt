@@ -14,7 +14,8 @@ use Rattle.gate_area.specs.Gate.{renew_calls}
 use Rattle.gate_area.specs.Operations.{renew_ops}
 use Rattle.disk_model.specs.Running.{Op}
 use Rattle.command_codec.specs.declared.fault.CodecFault.{CodecFault}
-use Rattle.command_codec.specs.Reader.{Reader, number_at, bytes_at, follow, both, shown}
+use Rattle.mrp_types.specs.Reading.{follow, both, shown}
+use Rattle.command_codec.specs.Reader.{Reader, number_at, bytes_at}
 use Rattle.frames.specs.Spelling.{tuple_bytes}
 use Rattle.frames.specs.Grammar.{tuple_at, all_of, part_of as part_size}
 use Rattle.plain_model.specs.StateBytes.{fault_position}

@@ -8,7 +8,8 @@ use Rattle.command_codec.specs.declared.fault.CodecFault.{CodecFault}
 use Rattle.command_codec.specs.declared.fault.CodecFault.TheVariants.{BadKind}
 use Rattle.command_codec.specs.Fields.{u16_bytes, u64_bytes, string16}
 use Rattle.command_codec.specs.Spelling.{entry_bytes, batch_bytes, AreEntries}
-use Rattle.command_codec.specs.Reader.{Spot, byte_at, number_at, within, string_at, both, Says}
+use Rattle.mrp_types.specs.Reading.{both}
+use Rattle.command_codec.specs.Reader.{Spot, byte_at, number_at, within, string_at, Says}
 use Rattle.command_codec.specs.Grammar.{entry_of, entry_at, entries_at, batch_at, batch_of}
 use Rattle.command_codec.proofs.ReaderLaws.{AreBytes, Took, Again, Field, HasLength, one_byte, any_byte_law, number_law, wide16, wide64, within_law, string_law, rest_are}
 use Rattle.command_codec.proofs.Combined.{both_law, shown_law, chosen, AllInChain, in_chain, of_chain, counted_law, counted_text, whole_was, whole_again}

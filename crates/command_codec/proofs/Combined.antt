@@ -6,7 +6,8 @@ use Rattle.std.proofs.lemmas.List.Concat.{flat_map-cons}
 use Rattle.std.proofs.lemmas.Bool.{eqb-true}
 use Rattle.command_codec.specs.declared.fault.CodecFault.{CodecFault}
 use Rattle.command_codec.specs.declared.fault.CodecFault.TheVariants.{Left}
-use Rattle.command_codec.specs.Reader.{Spot, Reader, ◌>>=◌, follow, both, nothing, shown, chain, counted, ended, whole, start}
+use Rattle.mrp_types.specs.Reading.{◌>>=◌, follow, both, nothing, shown, chain, counted}
+use Rattle.command_codec.specs.Reader.{Spot, Reader, ended, whole, start}
 use Rattle.command_codec.proofs.ReaderLaws.{AreBytes, bound, ok_is, then_was, Took, took_both, Again, Field}
 
 -- ---- one after the other
@@ -89,7 +90,7 @@ kind_again A B made read a IsA law x at tail is =
 
 -- a kind without fields
 pub alone_was : (B : Type 0) (value : B) (b : B → List ℕ) (IsB : B → Type 0) (kind : ℕ) → b value ≡ kind ∷ [] → IsB value →
-    (first : ℕ) → first ≡ kind → (at behind : ℕ) (rest : List ℕ) (x : B × Spot) → AreBytes rest → nothing value (record { at = behind; rest = rest }) ≡ Ok x →
+    (first : ℕ) → first ≡ kind → (at behind : ℕ) (rest : List ℕ) (x : B × Spot) → AreBytes rest → nothing {E = CodecFault} value (record { at = behind; rest = rest }) ≡ Ok x →
     Took (record { at = at; rest = first ∷ rest }) (b x.0) x.1 × IsB x.0
 alone_was B value b IsB kind text is first same at behind rest x are h =
     let parts : first ∷ rest ≡ b value ++ rest = rw (same, text) refl in

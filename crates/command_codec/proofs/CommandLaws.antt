@@ -17,7 +17,8 @@ use Rattle.command_codec.specs.declared.fault.CodecFault.TheVariants.{BadKind}
 use Rattle.command_codec.specs.Fields.{u64_bytes, string16}
 use Rattle.command_codec.specs.Spelling.{command_bytes}
 use Rattle.command_codec.specs.Valid.{IsCommand, IsKey, HasNumbers, rises_from}
-use Rattle.command_codec.specs.Reader.{Spot, byte_at, number_at, within, string_at, string_that, follow, both, Says}
+use Rattle.mrp_types.specs.Reading.{follow, both}
+use Rattle.command_codec.specs.Reader.{Spot, byte_at, number_at, within, string_at, string_that, Says}
 use Rattle.command_codec.specs.Grammar.{log_from, after_log, logs_at, key_at, stored_at, ends, append_at, multi_at, read_log_at, trim_log_at, get_at, scan_at, update_at, insert_at, delete_at, swap_at, command_of_kind, command_at, command_of}
 use Rattle.command_codec.proofs.ReaderLaws.{AreBytes, Took, Again, Field, HasLength, one_byte, byte_law, number_law, wide64, within_law, string_law, string_that_law, rest_are}
 use Rattle.command_codec.proofs.Combined.{follow_law, both_law, shown_law, kind_was, kind_again, chosen, AllInChain, counted_law, counted_text, whole_was, whole_again}

@@ -2,7 +2,8 @@
 use Rattle.std.proofs.Common.{◌≡◌, ℕ, suc, ◌-◌, ◌+◌, ◌≤◌, ◌<◌, List, [], ◌∷◌, ◌++◌, inl, inr, Result, Ok, Err, refl, sym, ap, ◌∙◌, append_assoc, append-nil, arith}
 use Rattle.std.specs.Prelude.{IsErrAnd}
 use Rattle.command_codec.specs.declared.fault.CodecFault.{CodecFault}
-use Rattle.command_codec.specs.Reader.{Spot, Reader, ◌>>=◌, chain, Fails, Reads}
+use Rattle.mrp_types.specs.Reading.{◌>>=◌, chain}
+use Rattle.command_codec.specs.Reader.{Spot, Reader, Fails, Reads}
 
 -- what was read before, and what is still read
 abbrev pub before : {V : Type 0} → List V → Result (List V × Spot) CodecFault → Result (List V × Spot) CodecFault

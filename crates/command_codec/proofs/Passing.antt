@@ -1,7 +1,8 @@
 -- A list that is passed over keeps nothing, and ends where reading it ends.
 use Rattle.std.proofs.Common.{arith, ◌≡◌, ℕ, suc, ◌+◌, ◌-◌, ◌<◌, List, ◌∷◌, Option, Some, Result, Ok, Err, refl, sym, ◌∙◌, ap}
 use Rattle.command_codec.specs.declared.fault.CodecFault.{CodecFault}
-use Rattle.command_codec.specs.Reader.{Spot, Reader, ◌>>=◌, each, passed}
+use Rattle.mrp_types.specs.Reading.{◌>>=◌, each}
+use Rattle.command_codec.specs.Reader.{Spot, Reader, passed}
 use Rattle.command_codec.specs.Grammar.{entry_at}
 
 one_passed : {V : Type 0} (r : Result (V × Spot) CodecFault) (read : Reader V) (k : ℕ) (behind : Spot) → passed r ≡ Some behind →

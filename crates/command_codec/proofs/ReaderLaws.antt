@@ -7,7 +7,8 @@ use Rattle.std.proofs.lemmas.Nat.{be_bytes_2, be_bytes_4, be_bytes_8, from_be_by
 use Rattle.command_codec.specs.declared.fault.CodecFault.{CodecFault}
 use Rattle.command_codec.specs.declared.fault.CodecFault.TheVariants.{Short, BadField, TooLong}
 use Rattle.command_codec.specs.Fields.{u16_bytes, u32_bytes, u64_bytes, string16}
-use Rattle.command_codec.specs.Reader.{Spot, Reader, ◌>>=◌, byte_of, byte_at, bytes_at, number_at, within, length_at, string_at, string_that}
+use Rattle.mrp_types.specs.Reading.{◌>>=◌}
+use Rattle.command_codec.specs.Reader.{Spot, Reader, byte_of, byte_at, bytes_at, number_at, within, length_at, string_at, string_that}
 
 -- ---- bytes
 

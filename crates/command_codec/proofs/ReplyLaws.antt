@@ -11,7 +11,8 @@ use Rattle.command_codec.specs.declared.fault.CodecFault.{CodecFault}
 use Rattle.command_codec.specs.declared.fault.CodecFault.TheVariants.{BadKind}
 use Rattle.command_codec.specs.Fields.{u16_bytes, u64_bytes, string16}
 use Rattle.command_codec.specs.Replies.{reply_bytes, position_bytes, table_entry_bytes, flag, IsReply, HasNumbers, IsPosition, IsTableEntry, AreTableEntries, keys_rise}
-use Rattle.command_codec.specs.Reader.{Spot, byte_at, number_at, within, string_that, both, shown, counted, many, Says}
+use Rattle.mrp_types.specs.Reading.{both, shown, counted, many}
+use Rattle.command_codec.specs.Reader.{Spot, byte_at, number_at, within, string_that, Says}
 use Rattle.command_codec.specs.Grammar.{log_from, stored_at, comes_after, position_at, positions_at, table_entry_at, key_of, entries_reply_at, reply_of_kind, reply_at, reply_of}
 use Rattle.command_codec.proofs.ReaderLaws.{AreBytes, Took, Again, Field, HasLength, one_byte, byte_law, number_law, wide16, wide64, within_law, string_that_law, rest_are}
 use Rattle.command_codec.proofs.Combined.{both_law, shown_law, kind_was, kind_again, alone_was, chosen, AllInChain, in_chain, of_chain, counted_law, counted_text, whole_was, whole_again}

@@ -13,7 +13,8 @@ use Rattle.command_codec.specs.declared.reply.Reply.{Reply}
 use Rattle.command_codec.specs.declared.reply.Reply.TheVariants as replies
 use Rattle.command_codec.specs.declared.fault.CodecFault.{CodecFault}
 use Rattle.command_codec.specs.declared.fault.CodecFault.TheVariants.{BadKind}
-use Rattle.command_codec.specs.Reader.{Reader, ◌>>=◌, byte_at, number_at, within, string_at, string_that, follow, both, nothing, shown, counted, many, whole}
+use Rattle.mrp_types.specs.Reading.{◌>>=◌, follow, both, nothing, shown, counted, many}
+use Rattle.command_codec.specs.Reader.{Reader, byte_at, number_at, within, string_at, string_that, whole}
 
 -- ---- parts
 

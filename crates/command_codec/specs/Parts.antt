@@ -6,7 +6,8 @@ use Rattle.mrp_types.specs.declared.value.Entry.{Entry}
 use Rattle.mrp_types.specs.declared.value.Value.{Value}
 use Rattle.mrp_types.specs.declared.value.Value.TheVariants.{Skip, Batch}
 use Rattle.command_codec.specs.declared.fault.CodecFault.{CodecFault}
-use Rattle.command_codec.specs.Reader.{Reader, byte_at, number_at, within, string_that, follow, shown}
+use Rattle.mrp_types.specs.Reading.{follow, shown}
+use Rattle.command_codec.specs.Reader.{Reader, byte_at, number_at, within, string_that}
 use Rattle.command_codec.specs.Grammar.{batch_of}
 
 -- ---- values

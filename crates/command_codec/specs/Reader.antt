@@ -1,5 +1,7 @@
 -- Fields read from the left: a value and what is left, or the first fault with its position.
 use Rattle.std.specs.Prelude.{ℕ, zero, suc, ◌≡◌, ◌+◌, ◌⊎◌, nat_lt, ◌==◌, if◌then◌else◌, Bool, true, false, List, [], ◌∷◌, length, take, drop, Option, Some, None, Result, Ok, Err}
+use Rattle.mrp_types.specs.Reading.{◌>>=◌}
+use Rattle.mrp_types.specs.Reading as reading
 use Rattle.std.specs.Int.{Width, w16, byte_len, from_be_bytes}
 use Rattle.command_codec.specs.declared.fault.CodecFault.{CodecFault}
 use Rattle.command_codec.specs.declared.fault.CodecFault.TheVariants.{Short, BadField, TooLong, Left, Memory}
@@ -14,26 +16,18 @@ start bytes = record { at = 0; rest = bytes }
 
 -- what is read at a spot, and the spot behind it
 abbrev pub Reader : Type 0 → Type 0
-Reader V = Spot → Result (V × Spot) CodecFault
-
--- the second step, where the first found no fault
-infixl 10 ◌>>=◌
-abbrev pub ◌>>=◌ : {A B E : Type 0} → Result A E → (A → Result B E) → Result B E
-(Ok x) >>= f = f x
-(Err e) >>= f = Err e
+Reader V = reading.Reader Spot CodecFault V
 
 -- What a call read, seen by view, and what is left, are what reading gives, unless memory ran out.
 abbrev pub Fails : {Y : Type 0} → Result Y CodecFault → CodecFault → Type 0
-Fails read fault = (fault ≡ Memory) ⊎ (read ≡ Err fault)
+Fails read fault = reading.Fails Memory read fault
 
 abbrev pub Reads : {X Y : Type 0} → (X → Y) → Result (Y × Spot) CodecFault → Result X CodecFault → Spot → Type 0
-Reads view read (Ok x) left = read ≡ Ok (view x, left)
-Reads view read (Err fault) left = Fails read fault
+Reads view read result left = reading.Reads Memory view read result left
 
 -- the same of a call that leaves nothing
 abbrev pub Says : {X Y : Type 0} → (X → Y) → Result Y CodecFault → Result X CodecFault → Type 0
-Says view read (Ok x) = read ≡ Ok (view x)
-Says view read (Err fault) = Fails read fault
+Says view read result = reading.Says Memory view read result
 
 -- the same of a call that keeps nothing: whether something was read
 abbrev pub passed : {V : Type 0} → Result (V × Spot) CodecFault → Option Spot
@@ -95,49 +89,6 @@ string_at least most spot = do
   bytes_at number.0 number.1
 
 -- ---- several fields
-
--- one after the other, the second by what the first gave
-abbrev pub follow : {A B : Type 0} → Reader A → (A → Reader B) → Reader (A × B)
-follow first second spot = do
-  a ← first spot
-  b ← second a.0 a.1
-  Ok ((a.0, b.0), b.1)
-
--- one after the other
-abbrev pub both : {A B : Type 0} → Reader A → Reader B → Reader (A × B)
-both first second = follow first (λ _. second)
-
--- no field
-abbrev pub nothing : {V : Type 0} → V → Reader V
-nothing value spot = Ok (value, spot)
-
--- what stands for what was read
-abbrev pub shown : {A B : Type 0} → (A → B) → Reader A → Reader B
-shown made read spot = do
-  a ← read spot
-  Ok (made a.0, a.1)
-
--- so many, each read by what the one before it left to ask
-abbrev pub chain : {S V : Type 0} → (S → Reader V) → (V → S) → ℕ → S → Reader (List V)
-chain read next zero asked spot = Ok ([], spot)
-chain read next (suc count) asked spot = do
-  first ← read asked spot
-  others ← chain read next count (next first.0) first.1
-  Ok (first.0 ∷ others.0, others.1)
-
--- a count, and so many
-abbrev pub counted : {S V : Type 0} → Reader ℕ → (S → Reader V) → (V → S) → S → Reader (List V)
-counted count read next asked spot = do
-  number ← count spot
-  chain read next number.0 asked number.1
-
--- so many of one kind
-abbrev pub each : {V : Type 0} → Reader V → ℕ → Reader (List V)
-each read count = chain {S = ℕ} (λ _. read) (λ _. 0) count 0
-
--- a count, and so many of one kind
-abbrev pub many : {V : Type 0} → Reader ℕ → Reader V → Reader (List V)
-many count read = counted {S = ℕ} count (λ _. read) (λ _. 0) 0
 
 abbrev pub ended : {V : Type 0} → V → Spot → Result V CodecFault
 ended value spot = if length spot.rest == 0 then Ok value else Err (Left spot.at)

@@ -2,7 +2,8 @@
 
 ghost use Rattle.std.specs.Prelude.{◌≡◌, List, IfOk, Ok};
 ghost use Rattle.mrp_types.specs.declared.value.Entry.{Entry};
-ghost use Rattle.command_codec.specs.Reader.{Reads, Says, each};
+ghost use Rattle.mrp_types.specs.Reading.{each};
+ghost use Rattle.command_codec.specs.Reader.{Reads, Says};
 ghost use Rattle.command_codec.specs.Grammar.{batch_of, batch_at, entries_at, entry_at};
 ghost use Rattle.command_codec.specs.Spelling.{batch_bytes, AreEntries};
 

@@ -1,7 +1,8 @@
 //! Whether bytes are a batch, told without keeping its entries.
 
 ghost use Rattle.std.specs.Prelude.{◌≡◌};
-ghost use Rattle.command_codec.specs.Reader.{Passes, each};
+ghost use Rattle.mrp_types.specs.Reading.{each};
+ghost use Rattle.command_codec.specs.Reader.{Passes};
 ghost use Rattle.command_codec.specs.Grammar.{batch_at, entry_at};
 ghost use Rattle.command_codec.specs.Parts.{spells_batch};
 

@@ -9,8 +9,8 @@ ghost use Rattle.command_codec.specs.Spelling.{command_bytes};
 ghost use Rattle.command_codec.specs.Valid.{IsCommand, IsKey, AreLogs, IsRange, rises_from};
 
 use crate::Logs;
-use crate::limits::{KEY, LOGS, STORED};
 use crate::writing::{put_string16, put_u8, put_u64};
+use mrp_types::limits::{KEY, LOGS, STORED};
 use mrp_types::{LogId, Memory, Octets};
 use std::alloc::Global;
 use std::cmp::Ordering;

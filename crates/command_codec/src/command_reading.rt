@@ -2,14 +2,15 @@
 
 ghost use Rattle.std.specs.Prelude.{◌≡◌, ◌<◌, IfOk, Ok};
 ghost use Rattle.command_codec.specs.declared.command.Command.{Command};
-ghost use Rattle.command_codec.specs.Reader.{Reads, Says, chain, string_that};
+ghost use Rattle.mrp_types.specs.Reading.{chain};
+ghost use Rattle.command_codec.specs.Reader.{Reads, Says, string_that};
 ghost use Rattle.command_codec.specs.Grammar.{command_of, command_at, command_of_kind, append_at, multi_at, read_log_at, trim_log_at, get_at, scan_at, update_at, insert_at, delete_at, swap_at, log_from, after_log, logs_at, ends};
 ghost use Rattle.command_codec.specs.Spelling.{command_bytes};
 ghost use Rattle.command_codec.specs.Valid.{IsCommand, HasNumbers};
 
-use crate::limits::{KEY, LAST_LOG, LOGS, STORED};
 use crate::reading::Cursor;
 use crate::{CodecFault, Command, Logs, order};
+use mrp_types::limits::{KEY, LAST_LOG, LOGS, STORED};
 use mrp_types::{LogId, Octets};
 use std::alloc::Global;
 

@@ -2,7 +2,7 @@
 //!
 //! `specs/Spelling.antt` and `specs/Replies.antt` have the spellings as functions of the value, `specs/Grammar.antt`
 //! has the reading, field by field from the left. The modules `reading`, `parts` and `writing`
-//! have the fields for other crates, and `limits` how long and how great they may be.
+//! have the fields for other crates; `mrp_types::limits` has how long and how great they may be.
 #![tactic(auto)]
 
 mod batch;
@@ -12,7 +12,6 @@ mod command;
 mod command_reading;
 mod fault;
 mod joining;
-pub mod limits;
 mod lists;
 mod order;
 pub mod parts;

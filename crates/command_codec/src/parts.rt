@@ -6,9 +6,9 @@ ghost use Rattle.command_codec.specs.declared.fault.CodecFault.TheVariants.{BadF
 ghost use Rattle.command_codec.specs.Reader.{Reads, WantsNone};
 ghost use Rattle.command_codec.specs.Parts.{ring_at, ballot_at, inst_at, range_from, value_at, spells_skip};
 
-use crate::limits::{LAST_BALLOT, LAST_RING, VALUE};
 use crate::reading::Cursor;
 use crate::{CodecFault, is_batch};
+use mrp_types::limits::{LAST_BALLOT, LAST_RING, VALUE};
 use mrp_types::{Ballot, END, Inst, Payload, RingId, Value};
 use std::alloc::Global;
 

@@ -6,10 +6,10 @@ ghost use Rattle.command_codec.specs.Fields.{u16_bytes, u64_bytes};
 ghost use Rattle.command_codec.specs.Replies.{IsReply, ArePositions, AreTableEntries, IsPosition, IsTableEntry, reply_bytes, position_bytes, table_entry_bytes, keys_rise, flag};
 
 use crate::joining::add_copies;
-use crate::limits::{ENTRIES, KEY, LOGS, POSITIONS, STORED};
 use crate::order::comes_after;
 use crate::writing::{put_string16, put_u8, put_u16, put_u64};
 use crate::{LogPositions, TableEntries};
+use mrp_types::limits::{ENTRIES, KEY, LOGS, POSITIONS, STORED};
 use mrp_types::{LogId, Memory, Octets};
 use std::alloc::Global;
 

@@ -2,13 +2,14 @@
 
 ghost use Rattle.std.specs.Prelude.{◌≡◌, ◌==◌, [], IfOk, Ok};
 ghost use Rattle.command_codec.specs.declared.reply.Reply.{Reply};
-ghost use Rattle.command_codec.specs.Reader.{Reads, Says, chain, each, string_that};
+ghost use Rattle.mrp_types.specs.Reading.{chain, each};
+ghost use Rattle.command_codec.specs.Reader.{Reads, Says, string_that};
 ghost use Rattle.command_codec.specs.Grammar.{reply_of, reply_at, reply_of_kind, positions_at, position_at, entries_reply_at, table_entry_at, key_of, comes_after};
 ghost use Rattle.command_codec.specs.Replies.{reply_bytes, IsReply, HasNumbers};
 
-use crate::limits::{KEY, LAST_LOG, STORED};
 use crate::reading::Cursor;
 use crate::{CodecFault, LogPosition, LogPositions, Reply, TableEntries, TableEntry, order};
+use mrp_types::limits::{KEY, LAST_LOG, STORED};
 use mrp_types::{LogId, Octets};
 use std::alloc::Global;
 

@@ -2,7 +2,8 @@
 use Rattle.std.proofs.Common.{◌≡◌, List, [], ◌∷◌, ◌++◌, inl, inr, Result, Ok, Err, refl, sym, ap, ◌∙◌, append_assoc, append-nil}
 use Rattle.std.specs.Prelude.{IsErrAnd}
 use Rattle.config_walk.specs.declared.fault.ConfigFault.{ConfigFault}
-use Rattle.config_walk.specs.Values.{◌>>=◌, chain, Fails, Says}
+use Rattle.mrp_types.specs.Reading.{◌>>=◌}
+use Rattle.config_walk.specs.Values.{chain, Fails, Says}
 
 -- what was found before, and what is still judged
 abbrev pub before : {V : Type 0} → List V → Result (List V) ConfigFault → Result (List V) ConfigFault

@@ -13,7 +13,8 @@ use Rattle.mrp_types.specs.Seats.{is_among, numbers_of_nodes, AreDifferent}
 use Rattle.config_walk.specs.declared.fault.ConfigFault.{ConfigFault}
 use Rattle.config_walk.proofs.Addresses.{address_is}
 use Rattle.config_walk.specs.Address.{is_address, IsAddress}
-use Rattle.config_walk.specs.Values.{◌>>=◌, chain, unless, integer_of, in_range, number_of, text_of, address_of, decoded, hex_of, integers_of, each_in, numbers_of, each_once, each_rises, each_known, id_of, as_nodes, seats_of}
+use Rattle.mrp_types.specs.Reading.{◌>>=◌}
+use Rattle.config_walk.specs.Values.{chain, unless, integer_of, in_range, number_of, text_of, address_of, decoded, hex_of, integers_of, each_in, numbers_of, each_once, each_rises, each_known, id_of, as_nodes, seats_of}
 use Rattle.config_walk.specs.Numbers.{AreAtMost, AreAmong, AreApart, IsBetween, AreSeats, IsKey}
 use Rattle.config_walk.proofs.Among.{in_neither, none_of, turned}
 

@@ -1,5 +1,7 @@
 -- The values of a table's keys: what is read of each, or its fault.
 use Rattle.std.specs.Prelude.{ℕ, ◌≡◌, ◌⊎◌, ◌+◌, ◌==◌, min, nat_le, nat_lt, ◌&&◌, Bool, true, false, if◌then◌else◌, ℤ, pos, negsuc, List, [], ◌∷◌, ◌++◌, length, map, Option, Some, None, Result, Ok, Err}
+use Rattle.mrp_types.specs.Reading.{◌>>=◌}
+use Rattle.mrp_types.specs.Reading as reading
 use Rattle.std.specs.Str.{bytes_eq}
 use Rattle.toml.specs.Data.{Data, string, integer, array, table, Items, no_items, item, Members, no_members, member}
 use Rattle.hex.specs.Hex.{encode_lower, decode_of}
@@ -12,19 +14,12 @@ use Rattle.config_walk.specs.declared.fault.ConfigFault.{ConfigFault}
 use Rattle.config_walk.specs.declared.fault.ConfigFault.TheVariants.{Missing, WrongKind, OutOfRange, Repeated, UnknownId, UnknownName, Memory}
 use Rattle.config_walk.specs.Address.{is_address}
 
--- the second step, where the first found no fault
-infixl 10 ◌>>=◌
-abbrev pub ◌>>=◌ : {A B : Type 0} → Result A ConfigFault → (A → Result B ConfigFault) → Result B ConfigFault
-(Ok x) >>= f = f x
-(Err e) >>= f = Err e
-
 -- What a call judged, seen by view, is what the walk gives, unless memory ran out.
 abbrev pub Fails : {Y : Type 0} → Result Y ConfigFault → ConfigFault → Type 0
-Fails walked fault = (fault ≡ Memory) ⊎ (walked ≡ Err fault)
+Fails read fault = reading.Fails Memory read fault
 
 abbrev pub Says : {X Y : Type 0} → (X → Y) → Result Y ConfigFault → Result X ConfigFault → Type 0
-Says view walked (Ok x) = walked ≡ Ok (view x)
-Says view walked (Err fault) = Fails walked fault
+Says view read result = reading.Says Memory view read result
 
 -- nothing to say where a test holds
 abbrev pub unless : Bool → ConfigFault → Result (Unit {0}) ConfigFault

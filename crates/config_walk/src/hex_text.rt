@@ -13,11 +13,9 @@ use crate::faults::out_of_range;
 use crate::values::read_text;
 use hex::FromHexError;
 use mrp_types::Octets;
+use mrp_types::limits::KEY;
 use std::alloc::Global;
 use toml::Table;
-
-// The greatest length of a key.
-const LIMIT: usize = 256;
 
 /// The bytes that the text of this key, which faults call `name` spells, at most 256.
 #[tactic(auto, unfolding(crate::specs::Values::hex_of))]
@@ -38,7 +36,7 @@ fn decoded(alloc: Global, name: &str, text: &str) -> Result<Octets, ConfigFault>
     if hex::encode(alloc, bytes.as_slice())?.as_bytes() != text.as_bytes() {
         return Err(out_of_range(alloc, name));
     }
-    if bytes.len() > LIMIT {
+    if bytes.len() > KEY {
         return Err(out_of_range(alloc, name));
     }
     Ok(Octets::from_vec(bytes))

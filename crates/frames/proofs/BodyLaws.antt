@@ -6,7 +6,8 @@ use Rattle.mrp_types.specs.declared.value.Value.{Value}
 use Rattle.command_codec.specs.declared.fault.CodecFault.{CodecFault}
 use Rattle.command_codec.specs.Fields.{u32_bytes, u64_bytes, string16}
 use Rattle.command_codec.specs.Parts.{ring_at, ballot_at, inst_at, range_at, is_one_of}
-use Rattle.command_codec.specs.Reader.{Spot, Reader, byte_at, number_at, within, string_at, both, nothing, shown}
+use Rattle.mrp_types.specs.Reading.{both, nothing, shown}
+use Rattle.command_codec.specs.Reader.{Spot, Reader, byte_at, number_at, within, string_at}
 use Rattle.command_codec.proofs.ReaderLaws.{AreBytes, Took, Field, HasLength, one_byte, byte_law, any_byte_law, number_law, wide32, wide64, within_law, string_law, ok_is}
 use Rattle.command_codec.proofs.Combined.{shown_was}
 use Rattle.command_codec.proofs.PartLaws.{ring_text, IsRing, ring_law, IsNumber, wide_law, range_text, IsRangeFrom, range_law, MayStand, value_law}
@@ -237,7 +238,7 @@ this_kind kind n h = grind arith
 later_kind : (kind n : ℕ) → n ≤ kind → (kind == n) ≡ false → n + 1 ≤ kind
 later_kind kind n low h = grind arith
 
-hello_was : (kind : ℕ) (client : Bool) → 19 ≡ kind → (spot : Spot) (x : Body × Spot) → AreBytes spot.rest → nothing Hello spot ≡ Ok x → WasBody kind client spot x
+hello_was : (kind : ℕ) (client : Bool) → 19 ≡ kind → (spot : Spot) (x : Body × Spot) → AreBytes spot.rest → nothing {E = CodecFault} Hello spot ≡ Ok x → WasBody kind client spot x
 hello_was kind client same spot x are h =
     subst (WasBody kind client spot) (ok_is (Hello, spot) x h) (record { parts = refl; bytes = are }, record { same = same; valid = tt; numbers = tt; hops = λ _. refl })
 

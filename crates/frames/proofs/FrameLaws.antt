@@ -8,7 +8,8 @@ use Rattle.mrp_types.specs.declared.id.Party.{Party}
 use Rattle.mrp_types.specs.declared.id.Party.TheVariants.{Node, Client}
 use Rattle.command_codec.specs.declared.fault.CodecFault.{CodecFault}
 use Rattle.command_codec.specs.declared.fault.CodecFault.TheVariants as fields
-use Rattle.command_codec.specs.Reader.{Spot, start, Reader, ◌>>=◌, byte_at, bytes_at, within, follow, ended}
+use Rattle.mrp_types.specs.Reading.{◌>>=◌, follow}
+use Rattle.command_codec.specs.Reader.{Spot, start, Reader, byte_at, bytes_at, within, ended}
 use Rattle.command_codec.proofs.ReaderLaws.{AreBytes, Took, Field, one_byte, byte_law, within_law, bound, then_was, rest_are}
 use Rattle.command_codec.proofs.Combined.{shown_law, shown_was}
 use Rattle.frames.specs.declared.body.Body.{Body}

@@ -9,7 +9,8 @@ use Rattle.mrp_types.specs.declared.voted.Voted.{Voted}
 use Rattle.mrp_types.specs.declared.voted.Decided.{Decided}
 use Rattle.command_codec.specs.Fields.{u16_bytes, u64_bytes}
 use Rattle.command_codec.specs.Parts.{range_from, is_one_of, value_at, ballot_at}
-use Rattle.command_codec.specs.Reader.{Reader, byte_at, number_at, within, follow, both, shown}
+use Rattle.mrp_types.specs.Reading.{follow, both, shown}
+use Rattle.command_codec.specs.Reader.{Reader, byte_at, number_at, within}
 use Rattle.command_codec.proofs.ReaderLaws.{Field, one_byte, byte_law, number_law, wide16, within_law}
 use Rattle.command_codec.proofs.Combined.{follow_law, both_law, shown_law, counted_law, AllInChain}
 use Rattle.command_codec.proofs.PartLaws.{ring_text, IsNumber, wide_law, range_text, IsRangeFrom, range_law, MayStand, value_text, value_law}

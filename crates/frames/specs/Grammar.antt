@@ -9,7 +9,8 @@ use Rattle.mrp_types.specs.declared.voted.Voted.{Voted}
 use Rattle.mrp_types.specs.declared.voted.Decided.{Decided}
 use Rattle.command_codec.specs.declared.fault.CodecFault.{CodecFault}
 use Rattle.command_codec.specs.declared.fault.CodecFault.TheVariants as fields
-use Rattle.command_codec.specs.Reader.{Spot, start, Reader, ◌>>=◌, byte_at, bytes_at, number_at, within, string_at, follow, both, nothing, shown, counted, ended}
+use Rattle.mrp_types.specs.Reading.{◌>>=◌, follow, both, nothing, shown, counted}
+use Rattle.command_codec.specs.Reader.{Spot, start, Reader, byte_at, bytes_at, number_at, within, string_at, ended}
 use Rattle.command_codec.specs.Parts.{ring_at, ballot_at, inst_at, range_at, range_from, is_one_of, value_at}
 use Rattle.frames.specs.declared.body.Body.{Body}
 use Rattle.frames.specs.declared.body.Body.TheVariants.{Submit, Prepare, Promise, Refuse, Accept, Decide, Fetch, Chosen, Trimmed, AskSafe, Safe, TrimTo, AskCheckpoint, HaveCheckpoint, AskPart, Part, Gone, Reply, Hello}

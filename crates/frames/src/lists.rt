@@ -1,7 +1,8 @@
 //! Lists of ranges, and tuples, from bytes.
 
 ghost use Rattle.std.specs.Prelude.{◌≡◌, ◌≤◌, ◌<◌, ◌^◌, IfOk, length};
-ghost use Rattle.command_codec.specs.Reader.{Reads, chain};
+ghost use Rattle.mrp_types.specs.Reading.{chain};
+ghost use Rattle.command_codec.specs.Reader.{Reads};
 ghost use Rattle.mrp_types.specs.Tuples.{IsTuple, AreNexts};
 ghost use Rattle.mrp_types.specs.Values.{is_skip as is_skip_lem};
 ghost use Rattle.frames.specs.Ranges.{nothing_before, after_vote, after_decided, may_skip};
@@ -9,14 +10,11 @@ ghost use Rattle.frames.specs.Grammar.{vote_at, votes_at, decided_at, ranges_at,
 
 use crate::BoxedTuple;
 use command_codec::CodecFault;
-use command_codec::limits::LAST_RING;
 use command_codec::parts::{read_ballot, read_range, read_value};
 use command_codec::reading::Cursor;
+use mrp_types::limits::LAST_RING;
 use mrp_types::{Ballot, Decided, END, Inst, Ranges, RingId, Tuple, Value, Voted, Votes};
 use std::alloc::Global;
-
-// The most rings of a tuple.
-const RINGS: u8 = 16;
 
 /// What the range before leaves to ask of the next one: where it may begin, and whether a Skip of this ballot there
 /// would be one range with it.
@@ -151,7 +149,7 @@ fn read_decided(
 pub fn read_tuple(alloc: Global, fields: &mut Cursor<'_>) -> Result<BoxedTuple, CodecFault>
     ensures { Reads (λ t. t) (tuple_at fields.old) result fields.new }
 {
-    let count = fields.byte_within(1, RINGS)?;
+    let count = fields.byte_within(1, LAST_RING + 1)?;
     let pairs = read_nexts(alloc, fields, count)?;
     Ok(BoxedTuple::new(alloc, Tuple::from_pairs(&pairs))?)
 }

@@ -12,6 +12,7 @@ use crate::bodies::read_body;
 use crate::{Frame, FrameFault};
 use command_codec::CodecFault;
 use command_codec::reading::Cursor;
+use mrp_types::limits::LAST_NODE;
 use mrp_types::{ClientId, NodeId, Party};
 use std::alloc::Global;
 
@@ -21,9 +22,7 @@ pub const MOST: usize = 32_768;
 /// The version with which frames are written, the only one that is read.
 pub const VERSION: u8 = 2;
 
-// The greatest number of a node, and the greatest kind.
-const LAST_NODE: u8 = 31;
-
+// The greatest kind.
 const LAST_KIND: u8 = 19;
 
 /// The frame that the bytes spell, all of the bytes, or the first field that can't stand. Commands and replies

@@ -12,11 +12,8 @@ use crate::reading::MOST;
 use crate::sizes::frame_size;
 use crate::{Body, Frame};
 use command_codec::is_batch;
-use command_codec::limits::{LAST_BALLOT, LAST_RING, VALUE};
+use mrp_types::limits::{LAST_BALLOT, LAST_NODE, LAST_RING, VALUE};
 use mrp_types::{Ballot, Decided, END, Entry, Inst, Octets, Party, RingId, Tuple, Value, Voted};
-
-// Nodes have numbers below this.
-const NODES: u8 = 32;
 
 // The most ranges of a list.
 const RANGES: usize = 65_535;
@@ -36,7 +33,7 @@ fn may_send(from: Party, body: &Body) -> bool
     ensures { IsTrue result ↔ MaySend from body.now }
 {
     match (from, body) {
-        (Party::Node(node), _) => node.0 < NODES,
+        (Party::Node(node), _) => node.0 <= LAST_NODE,
         (Party::Client(_), Body::Submit { hops, .. }) => *hops == 0,
         _ => false,
     }

@@ -2,7 +2,8 @@
 use Rattle.std.proofs.Common.{◌≡◌, inl, inr, Result, Ok, Err, refl, ap, ◌∙◌}
 use Rattle.std.specs.Prelude.{IsErrAnd}
 use Rattle.config_walk.specs.declared.fault.ConfigFault.{ConfigFault}
-use Rattle.config_walk.specs.Values.{◌>>=◌, Fails, Says}
+use Rattle.mrp_types.specs.Reading.{◌>>=◌}
+use Rattle.config_walk.specs.Values.{Fails, Says}
 
 pub step : {A B : Type 0} (r : Result A ConfigFault) (f : A → Result B ConfigFault) (x : A) (z : Result B ConfigFault) → r ≡ Ok x → f x ≡ z → (r >>= f) ≡ z
 step r f x z found later = ap (λ (s : Result _ ConfigFault). s >>= f) found ∙ later

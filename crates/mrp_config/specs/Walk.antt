@@ -10,7 +10,8 @@ use Rattle.mrp_types.specs.declared.id.LogId.{LogId}
 pub use Rattle.mrp_types.specs.Seats.{is_among, numbers_of_nodes}
 use Rattle.config_walk.specs.declared.fault.ConfigFault.{ConfigFault}
 use Rattle.config_walk.specs.declared.fault.ConfigFault.TheVariants.{NotToml, UnknownId, BadQuorums, BadRanges, LogTwice, TooLong}
-use Rattle.config_walk.specs.Values.{◌>>=◌, unless, chain, number_of, quorum_of, address_of, hex_of, id_of, seats_of, subscribed_of, logs_of, all_known, tables_of}
+use Rattle.mrp_types.specs.Reading.{◌>>=◌}
+use Rattle.config_walk.specs.Values.{unless, chain, number_of, quorum_of, address_of, hex_of, id_of, seats_of, subscribed_of, logs_of, all_known, tables_of}
 use Rattle.mrp_config.specs.declared.tables.NodeTable.{NodeTable}
 use Rattle.mrp_config.specs.declared.tables.ClientTable.{ClientTable}
 use Rattle.mrp_config.specs.declared.tables.RingTable.{RingTable}

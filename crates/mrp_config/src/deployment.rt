@@ -20,6 +20,7 @@ use crate::walk::{
 use crate::{ClientTable, NodeTable, PartitionTable, RingTable};
 use command_codec::Command;
 use config_walk::ConfigFault;
+use mrp_types::limits::CONFIGURATION;
 use mrp_types::{ClientId, Memory, NodeId, PartitionId, RingId, RoundSizes};
 use std::alloc::Global;
 use std::marker::Model;
@@ -62,14 +63,11 @@ impl Model for Deployment {
     ghost invariant = { λ d. IsValid (config_with d.numbers d.nodes.items d.clients.items d.rings.items d.partitions.items) };
 }
 
-// The greatest length of a deployment's text in bytes.
-const LIMIT: usize = 1_048_576;
-
 // The table that the bytes are.
 fn read_table(alloc: Global, bytes: &[u8]) -> Result<Table, ConfigFault>
     ensures { Says table_view (table_of bytes.now) result }
 {
-    if bytes.len() > LIMIT {
+    if bytes.len() > CONFIGURATION {
         return Err(ConfigFault::TooLong);
     }
     match toml::table_from_slice(alloc, bytes) {

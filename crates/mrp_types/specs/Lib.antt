@@ -8,3 +8,4 @@ pub mod Book
 pub mod Seats
 pub mod Tuples
 pub mod Values
+pub mod Reading

@@ -3,6 +3,7 @@
 
 mod id;
 mod items;
+pub mod limits;
 mod members;
 mod memory;
 mod octets;

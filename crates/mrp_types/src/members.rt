@@ -3,11 +3,9 @@
 ghost use Rattle.std.specs.Prelude.{◌≡◌, ◌≢◌, ◌<◌, ℕ, true, false, count_by};
 ghost use Rattle.mrp_types.specs.Members.{is_member};
 
+use crate::limits::NODES;
 use crate::{NodeId, RingId, Seats};
 use std::marker::Model;
-
-/// As many as there are numbers of nodes.
-const NODES: usize = 32;
 
 /// A set of node numbers below 32. Contracts see the list that says of each number whether it is in the set.
 #[derive(Clone, Copy, Debug)]

@@ -5,11 +5,9 @@ ghost use Rattle.mrp_types.specs.Rounds.{size_of};
 ghost use Rattle.mrp_types.specs.Tuples.{IsTuple};
 ghost use Rattle.mrp_types.specs.Moves.{place_of, first_tuple, earlier as earlier_lem, next_place as next_place_lem, moved_one as moved_one_lem, moved_past, past, is_last_before as is_last_before_lem, are_lasts_before as are_lasts_before_lem, is_valid_tuple, rings_of, entry_at, order_of, IsReached, IsOrderOf};
 
+use crate::limits::RINGS;
 use crate::{Inst, Place, RingId, RoundSizes, place_before};
 use std::marker::Model;
-
-/// The most rings of a tuple.
-const MOST: usize = 16;
 
 /// How two tuples of the same rings stand to one another.
 #[derive(Clone, Copy, Debug, PartialEq, Eq)]
@@ -23,7 +21,7 @@ pub enum Order {
 #[derive(Clone, Copy, Debug, PartialEq, Eq)]
 pub struct Tuple {
     count: u8,
-    pairs: [(RingId, Inst); MOST],
+    pairs: [(RingId, Inst); RINGS],
 }
 
 impl Model for Tuple {
@@ -52,7 +50,7 @@ impl Tuple {
         requires { IsTuple (first_tuple rings.now) }
         ensures { result ≡ first_tuple rings.now }
     {
-        let mut kept = [(RingId(0), 0); MOST];
+        let mut kept = [(RingId(0), 0); RINGS];
         for i in 0..rings.len() {
             kept[i] = (rings[i], 0);
         }
@@ -68,7 +66,7 @@ impl Tuple {
         requires { IsTuple pairs.now }
         ensures { result ≡ pairs.now }
     {
-        let mut kept = [(RingId(0), 0); MOST];
+        let mut kept = [(RingId(0), 0); RINGS];
         for i in 0..pairs.len() {
             kept[i] = pairs[i];
         }
@@ -204,7 +202,7 @@ fn moved(pairs: &[(RingId, Inst)], place: (RingId, Inst)) -> Tuple
     requires room { place.1 < 2 ^ 40 }
     ensures { result ≡ moved_past place pairs.now }
 {
-    let mut kept = [(RingId(0), 0); MOST];
+    let mut kept = [(RingId(0), 0); RINGS];
     for i in 0..pairs.len() {
         kept[i] = moved_one(pairs[i], place);
     }

@@ -10,13 +10,11 @@ use crate::status::{Status, Which};
 use crate::top::CONFIG;
 use mrp_config::{ConfigFault, Deployment};
 use mrp_types::Octets;
+use mrp_types::limits::EVENTS;
 use outside::{Refused, Sink, Source, new_piece, read_front, write_all, write_piece};
 use schedule::{ScheduleEvent, generate, put_event};
 use std::alloc::Global;
 use text_lines::number_of_word;
-
-// The most events of a schedule.
-const EVENTS: u64 = 1 << 20;
 
 /// What a schedule is drawn from.
 #[derive(Clone, Copy, Debug)]
@@ -48,7 +46,7 @@ fn draw_with(word: &[u8], seed: &[u8], events: &[u8]) -> Option<Draw>
     let Ok(events) = number_of_word(events) else {
         return None;
     };
-    if events > EVENTS {
+    if events > u64::from(EVENTS) {
         return None;
     }
     Some(Draw {

@@ -12,15 +12,16 @@ use crate::draw::{draw_of, run_draw};
 use crate::replay::{ReplayFault, replay};
 use crate::status::{InputFault, Status, Which};
 use mrp_config::{ConfigFault, Deployment, RingTable};
+use mrp_types::limits::{CONFIGURATION, SCHEDULE};
 use outside::{Refused, Sink, Source, read_front};
 use schedule::{FaultKind, ScheduleFault, read};
 use std::alloc::Global;
 use world::{built_ring, first_unbuilt};
 
 // One byte more than a configuration may have, and than a schedule may have.
-pub(crate) const CONFIG: usize = 1_048_577;
+pub(crate) const CONFIG: usize = CONFIGURATION + 1;
 
-const INPUT: usize = 67_108_865;
+const INPUT: usize = SCHEDULE + 1;
 
 /// Runs a command. `replay` reads the configuration to its end and judges it, then the input, and writes the lines of
 /// the system to the output. `gen SEED EVENTS` reads and judges the configuration, and writes the schedule of these

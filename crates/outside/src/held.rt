@@ -4,14 +4,12 @@ ghost use Rattle.std.specs.Prelude.{◌≡◌, ◌<◌, [], length, IfOk, OnOk};
 ghost use Rattle.outside.specs.Counts.{CountsFault};
 ghost use Rattle.outside.specs.Writing.{HandsOn};
 
+use crate::source::PIECE;
 use crate::{Refused, Sink, write_all};
 use mrp_types::Octets;
 use std::alloc::{AllocError, Global};
 
-// How many bytes are written at a time, and how many there is room for, so that what is added last seldom moves the
-// others.
-const PIECE: usize = 65_536;
-
+// How many bytes there is room for, so that what is added last seldom moves the others.
 const ROOM: usize = 98_304;
 
 /// An empty text with the room of a piece.

@@ -31,8 +31,8 @@ pub trait Source {
         ensures counted { reads self.new ≡ rise (reads self.old) };
 }
 
-// So much is asked of a source at once.
-const PIECE: usize = 65_536;
+// So much is asked of a source at once, and written to a sink.
+pub(crate) const PIECE: usize = 65_536;
 
 /// The bytes that the source has, or the first `most` of them. No byte after these is read, and each read but the last
 /// takes at least one.

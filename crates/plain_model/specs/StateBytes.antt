@@ -8,7 +8,8 @@ use Rattle.command_codec.specs.declared.reply.TableEntry.{TableEntry}
 use Rattle.command_codec.specs.declared.fault.CodecFault.{CodecFault}
 use Rattle.command_codec.specs.declared.fault.CodecFault.TheVariants.{Short, BadKind, BadField, TooLong, Left, Memory}
 use Rattle.command_codec.specs.Fields.{u16_bytes, u32_bytes, u64_bytes, string16}
-use Rattle.command_codec.specs.Reader.{Spot, Reader, ◌>>=◌, start, byte_at, bytes_at, number_at, within, string_at, follow, both, shown, counted, many, ended}
+use Rattle.mrp_types.specs.Reading.{◌>>=◌, follow, both, shown, counted, many}
+use Rattle.command_codec.specs.Reader.{Spot, Reader, start, byte_at, bytes_at, number_at, within, string_at, ended}
 use Rattle.command_codec.specs.Replies.{table_entry_bytes}
 use Rattle.command_codec.specs.Grammar.{table_entry_at, key_of, reply_of}
 use Rattle.mrp_config.specs.declared.tables.PartitionTable.{PartitionTable}

@@ -5,7 +5,7 @@ use Rattle.text_lines.specs.declared.fault.TextFault.{TextFault}
 use Rattle.text_lines.specs.declared.fault.TextFault.TheVariants as words
 use Rattle.text_lines.specs.Split.{Line, ended_line, all_ended, line_bytes, unlined, words_of, lines_of, first_line}
 use Rattle.text_lines.specs.Text.{joined}
-use Rattle.text_lines.specs.Reading.{◌>>=◌}
+use Rattle.mrp_types.specs.Reading.{◌>>=◌}
 use Rattle.text_lines.specs.Words.{all_of}
 use Rattle.text_lines.proofs.Inverse.{bound, then_was, else_was}
 use Rattle.text_lines.proofs.Laws.{Lacks, joined_words_of, lines_of_unlined, unlined_lines_of, first_and_rest}

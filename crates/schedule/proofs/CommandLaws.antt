@@ -9,7 +9,8 @@ use Rattle.std.specs.declared.cmp.Ordering.TheVariants.{Less, Equal, Greater}
 use Rattle.text_lines.specs.declared.fault.TextFault.{TextFault}
 use Rattle.text_lines.specs.declared.fault.TextFault.TheVariants.{Word, Range}
 use Rattle.text_lines.specs.Text.{hex_text}
-use Rattle.text_lines.specs.Words.{both as both_readers, shown, tested}
+use Rattle.mrp_types.specs.Reading.{both as both_readers, shown}
+use Rattle.text_lines.specs.Words.{tested}
 use Rattle.text_lines.proofs.Laws.{Lacks}
 use Rattle.text_lines.proofs.WordLaws.{Words, Took, Entry, AreEntries, alone, one_words, two, tested_words, IsTested, IsBoth, viewed_was, shown_read, keyed_was, none_low, lacks_low}
 use Rattle.mrp_types.specs.declared.id.LogId.{LogId}

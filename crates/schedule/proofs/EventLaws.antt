@@ -5,7 +5,8 @@ use Rattle.std.specs.Fmt.{decimal}
 use Rattle.hex.specs.Hex.{encode_lower}
 use Rattle.text_lines.specs.declared.fault.TextFault.{TextFault}
 use Rattle.text_lines.specs.declared.fault.TextFault.TheVariants.{Word, Range, Left}
-use Rattle.text_lines.specs.Words.{both as both_readers, shown, tested}
+use Rattle.mrp_types.specs.Reading.{both as both_readers, shown}
+use Rattle.text_lines.specs.Words.{tested}
 use Rattle.text_lines.proofs.Laws.{Lacks}
 use Rattle.text_lines.proofs.WordLaws.{Words, Took, Entry, AreEntries, alone, spell_both, one_words, two, tested_words, IsTested, IsBoth, viewed_was, given_was, shown_read, keyed_was, all_read, all_was, none_low, lacks_low}
 use Rattle.disk_model.specs.declared.area.Image.{Image}

@@ -9,7 +9,8 @@ use Rattle.text_lines.specs.declared.fault.TextFault.{TextFault}
 use Rattle.text_lines.specs.declared.fault.TextFault.TheVariants.{Range, Left}
 use Rattle.text_lines.specs.Split.{pieces_of}
 use Rattle.text_lines.specs.Text.{hex_text, joined_by}
-use Rattle.text_lines.specs.Reading.{◌>>=◌, number_of, hex_of, end_at}
+use Rattle.mrp_types.specs.Reading.{◌>>=◌}
+use Rattle.text_lines.specs.Reading.{number_of, hex_of, end_at}
 use Rattle.text_lines.proofs.Laws.{Lacks, pieces_of_joined, joined_pieces_of}
 use Rattle.text_lines.proofs.Inverse.{bound, then_was, else_was, ok_is, number_of_decimal, decimal_of_number, hex_of_text, text_of_hex, lacks_decimal, lacks_encoded, lacks_hex}
 use Rattle.text_lines.proofs.Numbers.{some_piece}

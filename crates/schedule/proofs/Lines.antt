@@ -2,7 +2,7 @@
 use Rattle.std.proofs.Common.{arith, ◌≡◌, ◌≤◌, ◌<◌, ℕ, ◌+◌, ◌-◌, List, [], ◌∷◌, ◌++◌, length, Some, None, Result, Ok, Err, refl, sym, ap, ◌∙◌, append_assoc, append-nil, length-append, Bool, inl, inr}
 use Rattle.std.specs.Prelude.{IsErrAnd}
 use Rattle.text_lines.specs.Split.{Line, line_bytes, lines_of, first_line}
-use Rattle.text_lines.specs.Reading.{◌>>=◌}
+use Rattle.mrp_types.specs.Reading.{◌>>=◌}
 use Rattle.text_lines.proofs.Places.{lines_of_at, lines_at}
 use Rattle.text_lines.proofs.Laws.{first_and_rest}
 use Rattle.mrp_config.specs.Config.{Config}

@@ -2,7 +2,7 @@
 use Rattle.std.specs.Prelude.{ℕ, ◌+◌, nat_lt, if◌then◌else◌, List, [], ◌∷◌, length, Result, Ok, Err}
 use Rattle.text_lines.specs.declared.fault.TextFault.TheVariants as words
 use Rattle.text_lines.specs.Split.{Line, line_bytes, words_of, lines_of}
-use Rattle.text_lines.specs.Reading.{◌>>=◌}
+use Rattle.mrp_types.specs.Reading.{◌>>=◌}
 use Rattle.text_lines.specs.Words.{all_of}
 use Rattle.command_codec.specs.declared.command.Command.{Command}
 use Rattle.mrp_config.specs.Config.{Config}

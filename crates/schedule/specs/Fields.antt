@@ -3,7 +3,8 @@ use Rattle.std.specs.Prelude.{ℕ, ◌+◌, nat_lt, Bool, true, false, if◌then
 use Rattle.text_lines.specs.declared.fault.TextFault.{TextFault}
 use Rattle.text_lines.specs.declared.fault.TextFault.TheVariants.{Range}
 use Rattle.text_lines.specs.Split.{pieces_of}
-use Rattle.text_lines.specs.Reading.{◌>>=◌, number_of, hex_of}
+use Rattle.mrp_types.specs.Reading.{◌>>=◌}
+use Rattle.text_lines.specs.Reading.{number_of, hex_of}
 use Rattle.mrp_types.specs.Seats.{seat_of}
 use Rattle.mrp_types.specs.declared.id.LogId.{LogId}
 use Rattle.mrp_config.specs.declared.tables.RingTable.{RingTable}

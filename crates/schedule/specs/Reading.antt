@@ -5,8 +5,9 @@ use Rattle.std.specs.List.{AllByRecursion}
 use Rattle.text_lines.specs.declared.fault.TextFault.{TextFault}
 use Rattle.text_lines.specs.declared.fault.TextFault.TheVariants.{Word, Range, Left}
 use Rattle.text_lines.specs.Split.{Line, all_ended, line_bytes, words_of, lines_of}
-use Rattle.text_lines.specs.Reading.{◌>>=◌, number_of}
-use Rattle.text_lines.specs.Words.{Reader, one, both, shown, tested, given, by_key, all_of}
+use Rattle.mrp_types.specs.Reading.{◌>>=◌, both, shown, nothing}
+use Rattle.text_lines.specs.Reading.{number_of}
+use Rattle.text_lines.specs.Words.{Reader, one, tested, by_key, all_of}
 use Rattle.mrp_types.specs.declared.id.LogId.{LogId}
 use Rattle.command_codec.specs.declared.command.Command.{Command}
 use Rattle.command_codec.specs.declared.command.Command.TheVariants.{Append, Multi, ReadLog, TrimLog, Get, Scan, Update, Insert, Delete, Swap}
@@ -120,7 +121,7 @@ list_at = shown Shown any_number
 
 abbrev pub ticks : Config → List (List ℕ × WordReader ScheduleEvent)
 ticks config =
-    (codes "all", given TickAll)
+    (codes "all", nothing TickAll)
     ∷ (codes "node", shown (λ n. TickNode (record { 0 = n })) (node_word config))
     ∷ (codes "client", shown (λ n. TickClient (record { 0 = n })) (client_word config))
     ∷ []
@@ -136,8 +137,8 @@ crash_at config = shown (λ n. Crash (record { 0 = n })) (node_word config)
 
 abbrev pub images : List (List ℕ × WordReader Image)
 images =
-    (codes "old", given Old)
-    ∷ (codes "new", given New)
+    (codes "old", nothing Old)
+    ∷ (codes "new", nothing New)
     ∷ (codes "fill", shown (λ x. Fill x.0 x.1) (both (within 0 1000000) byte_word))
     ∷ []
 

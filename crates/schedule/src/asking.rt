@@ -13,11 +13,11 @@ ghost use Rattle.schedule.specs.Asking.{command_of, bounded_command, second_faul
 
 use crate::commands::read_command;
 use crate::fault::kind_of;
-use crate::reading::BYTES;
 use crate::routing::has_route;
 use crate::{FaultKind, ScheduleFault};
 use command_codec::Command;
 use mrp_config::Deployment;
+use mrp_types::limits::SCHEDULE;
 use std::alloc::Global;
 use text_lines::{FirstLine, TextFault, Words, split_line};
 
@@ -68,7 +68,7 @@ fn read_lines(
 fn fault_behind(end: usize) -> FaultKind
     ensures { result ≡ second_fault end }
 {
-    if end > BYTES {
+    if end > SCHEDULE {
         return FaultKind::TooMany;
     }
     FaultKind::Left
@@ -98,7 +98,7 @@ fn read_line(
 ) -> Result<Command, FaultKind>
     ensures { Judges (bounded_command deployment.now end (line_with line.entry.text.now line.entry.ended)) result }
 {
-    if end > BYTES {
+    if end > SCHEDULE {
         return Err(FaultKind::TooMany);
     }
     let command = match read_words(alloc, line.text) {

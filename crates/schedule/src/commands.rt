@@ -9,7 +9,7 @@ ghost use Rattle.schedule.specs.Reading.{append_at, multi_at, read_at, trimlog_a
 
 use crate::words::{read_bytes, read_log, read_logs, read_number};
 use command_codec::Command;
-use command_codec::limits::{KEY, STORED};
+use mrp_types::limits::{KEY, STORED};
 use std::alloc::Global;
 use std::cmp::Ordering;
 use text_lines::{TextFault, Words};

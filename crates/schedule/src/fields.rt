@@ -6,17 +6,13 @@ ghost use Rattle.schedule.specs.Fields.{number_in as number_lem, known, is_clien
 
 use command_codec::Logs;
 use mrp_config::Deployment;
+use mrp_types::limits::{LAST_LOG, LOGS};
 use mrp_types::{ClientId, LogId, NodeId, Octets, RingId};
 use std::alloc::Global;
 use text_lines::{TextFault, Words, bytes_of_word, number_of_word};
 
-// The greatest number of a client, a node or a ring, and of a log.
+// The greatest number of a client, a node or a ring that a word can name.
 const LAST: u64 = 255;
-
-pub const LAST_LOG: u64 = 63;
-
-// How many logs there are at most.
-const LOGS: usize = 64;
 
 /// The number of this range that a word spells, both ends included.
 #[tactic(auto, unfolding(crate::specs::Fields::number_in))]
@@ -108,13 +104,13 @@ pub fn logs_of_word(alloc: Global, word: &[u8]) -> Result<Logs, TextFault>
         let Ok(piece) = pieces.word() else {
             return Ok(Logs::from_vec(logs));
         };
-        let log = number_in(piece, least, LAST_LOG)?;
+        let log = number_in(piece, least, u64::from(LAST_LOG))?;
         logs.push(LogId(log as u8))?;
         least = log + 1;
     }
     let Ok(piece) = pieces.word() else {
         return Ok(Logs::from_vec(logs));
     };
-    number_in(piece, least, LAST_LOG)?;
+    number_in(piece, least, u64::from(LAST_LOG))?;
     Err(TextFault::Range)
 }

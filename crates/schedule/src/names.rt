@@ -6,13 +6,12 @@ ghost use Rattle.schedule.specs.Fields.{is_client, is_node, is_held};
 
 use crate::routing::has_holder;
 use mrp_config::{Deployment, PartitionTable};
+use mrp_types::limits::LOGS;
 use mrp_types::{ClientId, Items, LogId, Memory, NodeId};
 use std::alloc::Global;
 
-// Ids of clients and nodes are below the first, those of logs below the second.
+// Ids of clients and nodes are below this.
 const IDS: u16 = 256;
-
-const LOGS: u8 = 64;
 
 /// The clients, the nodes and the logs of a deployment, each in order of id.
 #[derive(Drop)]

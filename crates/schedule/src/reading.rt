@@ -13,13 +13,9 @@ use crate::kinds::read_event;
 use crate::routing::has_route;
 use crate::{FaultKind, Schedule, ScheduleEvent, ScheduleFault};
 use mrp_config::Deployment;
+use mrp_types::limits::{EVENTS, SCHEDULE};
 use std::alloc::Global;
 use text_lines::{FirstLine, TextFault, Words, split_line};
-
-// The most events and bytes of a schedule.
-const EVENTS: u32 = 1 << 20;
-
-pub const BYTES: usize = 67_108_864;
 
 /// The schedule that the bytes spell, all of the bytes, over a deployment; or the first line at fault.
 ///
@@ -97,7 +93,7 @@ fn read_line(
 ) -> Result<ScheduleEvent, FaultKind>
     ensures { Judges (bounded deployment.now end (line_with line.entry.text.now line.entry.ended)) result }
 {
-    if end > BYTES {
+    if end > SCHEDULE {
         return Err(FaultKind::TooMany);
     }
     let event = match read_words(alloc, deployment, line.text) {

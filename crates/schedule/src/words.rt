@@ -4,9 +4,7 @@ ghost use Rattle.std.specs.Prelude.{◌≡◌, ◌≤◌, IfOk};
 ghost use Rattle.text_lines.specs.Reading.{Gives, Reads};
 ghost use Rattle.schedule.specs.Reading.{within, any_number, client_word, node_word, log_word, logs_word, bytes_word, byte_word};
 
-use crate::fields::{
-    LAST_LOG, byte_of_word, bytes_in, client_of, logs_of_word, node_of, number_in,
-};
+use crate::fields::{byte_of_word, bytes_in, client_of, logs_of_word, node_of, number_in};
 use command_codec::Logs;
 use mrp_config::Deployment;
 use mrp_types::{LogId, Octets};
@@ -50,7 +48,7 @@ pub fn read_node(deployment: &Deployment, words: &mut Words<'_>) -> Result<u8, T
 pub fn read_log(words: &mut Words<'_>) -> Result<LogId, TextFault>
     ensures { Gives (λ l. l.0) (log_word words.old) result words.new }
 {
-    let log = read_within(words, 0, LAST_LOG)?;
+    let log = read_within(words, 0, u64::from(LAST_LOG))?;
     Ok(LogId(log as u8))
 }
 

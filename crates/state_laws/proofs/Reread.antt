@@ -11,7 +11,8 @@ use Rattle.command_codec.specs.declared.fault.CodecFault.TheVariants.{Short, Bad
 use Rattle.command_codec.specs.declared.reply.TableEntry.{TableEntry}
 use Rattle.command_codec.specs.Fields.{u16_bytes, u32_bytes, u64_bytes, string16}
 use Rattle.command_codec.specs.Grammar.{comes_after, stored_at, table_entry_at, key_of, reply_of}
-use Rattle.command_codec.specs.Reader.{Spot, ◌>>=◌, byte_at, bytes_at, number_at, within, string_at, string_that, follow, both, start, ended}
+use Rattle.mrp_types.specs.Reading.{◌>>=◌, follow, both}
+use Rattle.command_codec.specs.Reader.{Spot, byte_at, bytes_at, number_at, within, string_at, string_that, start, ended}
 use Rattle.command_codec.specs.Replies.{table_entry_bytes}
 use Rattle.command_codec.proofs.ReaderLaws.{AreBytes, bound, ok_is, then_was, else_was, Took, took_both, Field, HasLength, one_byte, any_byte_law, wide16, wide32, wide64, number_law, within_law, string_law, string_that_law}
 use Rattle.command_codec.proofs.Combined.{AllInChain, of_chain, in_chain, follow_law, both_law, shown_law, counted_law}

@@ -9,7 +9,8 @@ use Rattle.mrp_types.specs.declared.id.LogId.{LogId}
 use Rattle.command_codec.specs.declared.reply.TableEntry.{TableEntry}
 use Rattle.command_codec.specs.Fields.{u16_bytes, u32_bytes, u64_bytes, string16}
 use Rattle.command_codec.specs.Grammar.{comes_after, stored_at, table_entry_at, key_of}
-use Rattle.command_codec.specs.Reader.{byte_at, number_at, within, string_at, string_that, follow, both, start}
+use Rattle.mrp_types.specs.Reading.{follow, both}
+use Rattle.command_codec.specs.Reader.{byte_at, number_at, within, string_at, string_that, start}
 use Rattle.command_codec.specs.Replies.{table_entry_bytes}
 use Rattle.command_codec.proofs.ReaderLaws.{HasLength, one_byte, wide16, wide32, wide64}
 use Rattle.command_codec.proofs.Combined.{AllInChain, in_chain, counted_text}

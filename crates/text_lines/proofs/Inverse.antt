@@ -15,7 +15,8 @@ use Rattle.hex.specs.Hex.{encode_lower, lower_digits, decode_of, is_hex_digit, I
 use Rattle.hex.specs.declared.error.FromHexError.{FromHexError}
 use Rattle.hex.proofs.HexLemmas.{decode_of-encode_lower, decode_of-ok, length-encode_with}
 use Rattle.text_lines.specs.Text.{hex_text}
-use Rattle.text_lines.specs.Reading.{◌>>=◌, is_led, is_decimal, number_of, number_within, hex_of, decoded}
+use Rattle.mrp_types.specs.Reading.{◌>>=◌}
+use Rattle.text_lines.specs.Reading.{is_led, is_decimal, number_of, number_within, hex_of, decoded}
 use Rattle.text_lines.specs.declared.fault.TextFault.{TextFault}
 use Rattle.text_lines.specs.declared.fault.TextFault.TheVariants.{Number, Range, Hex}
 use Rattle.text_lines.proofs.Laws.{Lacks}

@@ -5,8 +5,8 @@ use Rattle.std.specs.Prelude.{Result}
 use Rattle.std.specs.List.{AllByRecursion, flat_map}
 use Rattle.std.specs.Str.{bytes_eq}
 use Rattle.text_lines.specs.Text.{set_off, joined_by}
-use Rattle.text_lines.specs.Reading.{◌>>=◌}
-use Rattle.text_lines.specs.Words.{Reader, one, both, shown, tested, given, by_key, all_of}
+use Rattle.mrp_types.specs.Reading.{◌>>=◌, both, shown, nothing}
+use Rattle.text_lines.specs.Words.{Reader, one, tested, by_key, all_of}
 use Rattle.text_lines.proofs.Inverse.{bound}
 use Rattle.text_lines.proofs.Laws.{Lacks}
 use Rattle.mrp_types.proofs.TestLemmas.{both as both_tests}
@@ -150,7 +150,7 @@ viewed_was {E} key reader spell Is view tell Are law seen words x h =
       is = seen.is a.0 took.is;
     })
 
-pub given_was : {E V : Type 0} (key : List (List ℕ)) (v : V) (spell : V → List (List ℕ)) (Is : V → Type 0) → key ≡ spell v → Is v → Entry {E = E} spell Is key (given v)
+pub given_was : {E V : Type 0} (key : List (List ℕ)) (v : V) (spell : V → List (List ℕ)) (Is : V → Type 0) → key ≡ spell v → Is v → Entry {E = E} spell Is key (nothing v)
 given_was {E} key v spell Is same is words x h =
     subst (λ y. Took spell Is (key ++ words) y) (done_is E (v, words) x h) (record { spelled = ap (λ (k : List (List ℕ)). k ++ words) same; is = is })
 

@@ -6,7 +6,8 @@ use Rattle.std.specs.Str.{bytes_eq}
 use Rattle.std.specs.Fmt.{decimal}
 use Rattle.hex.specs.Hex.{IsBytes}
 use Rattle.text_lines.specs.Text.{hex_text}
-use Rattle.text_lines.specs.Reading.{◌>>=◌, word_at, keyword_at, number_at, number_within, hex_at, end_at, number_of, hex_of}
+use Rattle.mrp_types.specs.Reading.{◌>>=◌}
+use Rattle.text_lines.specs.Reading.{word_at, keyword_at, number_at, number_within, hex_at, end_at, number_of, hex_of}
 use Rattle.text_lines.proofs.Inverse.{bound, then_was, else_was, ok_is, decimal_of_number, text_of_hex}
 use Rattle.text_lines.specs.declared.fault.TextFault.{TextFault}
 use Rattle.text_lines.specs.declared.fault.TextFault.TheVariants.{Word, Range}

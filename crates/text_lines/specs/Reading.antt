@@ -1,5 +1,7 @@
 -- Reading words from the left: what is read, or the first fault.
 use Rattle.std.specs.Prelude.{ℕ, ◌≡◌, ◌^◌, ◌==◌, ◌⊎◌, nat_lt, Bool, true, false, not, ◌&&◌, if◌then◌else◌, List, [], ◌∷◌, Result, Ok, Err, codes, length}
+use Rattle.mrp_types.specs.Reading.{◌>>=◌}
+use Rattle.mrp_types.specs.Reading as reading
 use Rattle.std.specs.List.{list_all}
 use Rattle.std.specs.Char.{is_ascii_digit}
 use Rattle.std.specs.Str.{bytes_eq}
@@ -10,29 +12,20 @@ use Rattle.hex.specs.declared.error.FromHexError.TheVariants.{OutOfMemory}
 use Rattle.text_lines.specs.declared.fault.TextFault.{TextFault}
 use Rattle.text_lines.specs.declared.fault.TextFault.TheVariants.{Word, Number, Range, Hex, Left, Memory}
 
--- the second step, where the first found no fault
-infixl 10 ◌>>=◌
-abbrev pub ◌>>=◌ : {A B E : Type 0} → Result A E → (A → Result B E) → Result B E
-(Ok x) >>= f = f x
-(Err e) >>= f = Err e
-
 -- What a call read, seen by view, and what is left, are what reading gives.
 abbrev pub Gives : {X Y W : Type 0} → (X → Y) → Result (Y × W) TextFault → Result X TextFault → W → Type 0
-Gives view read (Ok x) left = read ≡ Ok (view x, left)
-Gives view read (Err fault) left = read ≡ Err fault
+Gives view read result left = reading.Gives view read result left
 
 -- The same, unless memory ran out.
 abbrev pub Fails : {Y : Type 0} → Result Y TextFault → TextFault → Type 0
-Fails read fault = (fault ≡ Memory) ⊎ (read ≡ Err fault)
+Fails read fault = reading.Fails Memory read fault
 
 abbrev pub Reads : {X Y W : Type 0} → (X → Y) → Result (Y × W) TextFault → Result X TextFault → W → Type 0
-Reads view read (Ok x) left = read ≡ Ok (view x, left)
-Reads view read (Err fault) left = Fails read fault
+Reads view read result left = reading.Reads Memory view read result left
 
 -- the same of a call that leaves nothing
 abbrev pub Says : {X Y : Type 0} → (X → Y) → Result Y TextFault → Result X TextFault → Type 0
-Says view read (Ok x) = read ≡ Ok (view x)
-Says view read (Err fault) = Fails read fault
+Says view read result = reading.Says Memory view read result
 
 -- ---- numbers
 

@@ -1,11 +1,13 @@
 -- Readers of words, for any kind of fault: what is read and the words behind it, or the first fault.
 use Rattle.std.specs.Prelude.{ℕ, if◌then◌else◌, Bool, List, [], ◌∷◌, Result, Ok, Err}
+use Rattle.mrp_types.specs.Reading as reading
 use Rattle.std.specs.Str.{bytes_eq}
-use Rattle.text_lines.specs.Reading.{◌>>=◌, word_or}
+use Rattle.mrp_types.specs.Reading.{◌>>=◌}
+use Rattle.text_lines.specs.Reading.{word_or}
 
 -- what is read of words, and the words behind it
 abbrev pub Reader : Type 0 → Type 0 → Type 0
-Reader E V = List (List ℕ) → Result (V × List (List ℕ)) E
+Reader E V = reading.Reader (List (List ℕ)) E V
 
 -- what the next word says; where there is none, the first fault
 abbrev pub one : {E V : Type 0} → E → (List ℕ → Result V E) → Reader E V
@@ -14,28 +16,11 @@ one missing says words = do
   value ← says word.0
   Ok (value, word.1)
 
--- one reader after the other
-abbrev pub both : {E A B : Type 0} → Reader E A → Reader E B → Reader E (A × B)
-both first second words = do
-  a ← first words
-  b ← second a.1
-  Ok ((a.0, b.0), b.1)
-
--- what is read, seen as another value
-abbrev pub shown : {E A B : Type 0} → (A → B) → Reader E A → Reader E B
-shown view reader words = do
-  a ← reader words
-  Ok (view a.0, a.1)
-
 -- what is read, where it passes a test, or this fault
 abbrev pub tested : {E A : Type 0} → E → (A → Bool) → Reader E A → Reader E A
 tested fault test reader words = do
   a ← reader words
   if test a.0 then Ok a else Err fault
-
--- no word is read
-abbrev pub given : {E A : Type 0} → A → Reader E A
-given x words = Ok (x, words)
 
 -- the next word says how to go on; this fault where there is none, or one that isn't listed
 abbrev pub by_key : {E A : Type 0} → E → List (List ℕ × Reader E A) → Reader E A

@@ -8,7 +8,7 @@ use Rattle.hex.specs.Hex.{encode_lower}
 use Rattle.mrp_types.proofs.TestLemmas.{some_is}
 use Rattle.text_lines.specs.Split.{words_of}
 use Rattle.text_lines.specs.Text.{joined}
-use Rattle.text_lines.specs.Reading.{◌>>=◌}
+use Rattle.mrp_types.specs.Reading.{◌>>=◌, both, shown}
 use Rattle.text_lines.proofs.Inverse.{bound}
 use Rattle.text_lines.proofs.Laws.{Lacks, words_of_joined, joined_words_of}
 use Rattle.transcript.specs.declared.fault.LineKind.{LineKind}
@@ -22,7 +22,6 @@ use Rattle.transcript.specs.declared.kinds.Limit.TheVariants.{Ballot as OfBallot
 use Rattle.transcript.specs.declared.line.ShownState.{ShownState}
 use Rattle.transcript.specs.declared.line.ShownFrame.{ShownFrame}
 use Rattle.transcript.specs.Spelling.{value_text, tuple_text, party_text, cause_text, state_words, frame_words, line_words, line_bytes, IsId, IsCount, IsValue, AreBytes, AreInstances, IsParty, IsShownState, IsShownFrame, IsLine}
-use Rattle.text_lines.specs.Words.{both, shown}
 use Rattle.transcript.specs.Words.{Reader, end_at}
 use Rattle.transcript.specs.Reading.{id_at, count_at, tuple_at, hex_at, value_at, party_at, learn_at, deliver_at, reply_at, answer_at, busy_at, begin_at, chose_at, restore_at, saved_at, trim_at, refuse_at, limit_line, limits, limit_of, limit_at, causes, cause_at, down_at, up_at, state_of, state_at, frame_of, frame_at, last_at, kinds_of_nodes, kinds_of_recovery, kinds, kind_at, line_in, onto_text, text_in, line_at, line_of}
 use Rattle.transcript.proofs.FieldLaws.{id, count, tuple, tuple_is_no_dash, party, party_is_no_none, bytes, value}

@@ -7,7 +7,7 @@ use Rattle.std.specs.List.{AllByRecursion}
 use Rattle.text_lines.specs.Split.{lines_of, all_ended, unlined, line_bytes as text_bytes}
 use Rattle.text_lines.specs.Split.{Line as TextLine}
 use Rattle.text_lines.specs.Text.{joined}
-use Rattle.text_lines.specs.Reading.{◌>>=◌}
+use Rattle.mrp_types.specs.Reading.{◌>>=◌}
 use Rattle.text_lines.proofs.Inverse.{bound}
 use Rattle.text_lines.proofs.Laws.{Lacks, lines_of_unlined, unlined_lines_of}
 use Rattle.transcript.specs.declared.fault.LineFault.{LineFault}

@@ -10,7 +10,7 @@ use Rattle.text_lines.proofs.Inverse.{done as plain_done}
 use Rattle.text_lines.proofs.Laws.{Lacks}
 use Rattle.transcript.specs.declared.fault.LineKind.{LineKind}
 use Rattle.transcript.specs.declared.fault.LineKind.TheVariants.{Word}
-use Rattle.text_lines.specs.Words.{given}
+use Rattle.mrp_types.specs.Reading.{nothing}
 use Rattle.text_lines.proofs.WordLaws.{Words, Took, Entry, alone, Field as AnyField, one_words as any_words}
 use Rattle.transcript.specs.Words.{Reader, word_at, one, unless}
 
@@ -45,7 +45,7 @@ pub one_words : {V : Type 0} (says : List ℕ → Option V) (spell : V → List 
 one_words says spell Is field kind = any_words (λ word. ok_or (says word) kind) spell Is (field_or says spell Is field kind) Word
 
 -- a word that stands for a value, or others
-pub unless_was : {V : Type 0} (spell : V → List (List ℕ)) (Is : V → Type 0) (key : List ℕ) (v : V) (other : Reader V) → Entry {E = LineKind} spell Is (key ∷ []) (given v) → Entry spell Is [] other
+pub unless_was : {V : Type 0} (spell : V → List (List ℕ)) (Is : V → Type 0) (key : List ℕ) (v : V) (other : Reader V) → Entry {E = LineKind} spell Is (key ∷ []) (nothing v) → Entry spell Is [] other
     → (words : List (List ℕ)) (x : V × List (List ℕ)) → unless key v other words ≡ Ok x → Took spell Is words x
 unless_was spell Is key v other first second [] x h = second [] x h
 unless_was {V} spell Is key v other first second (word ∷ words) x h = by (bytes_eq word key) refl h

@@ -4,7 +4,7 @@ use Rattle.std.specs.Result.{result_ok}
 use Rattle.mrp_types.specs.declared.id.Party.{Party}
 use Rattle.mrp_types.specs.declared.value.Value.{Value}
 use Rattle.text_lines.specs.Split.{words_of}
-use Rattle.text_lines.specs.Reading.{◌>>=◌}
+use Rattle.mrp_types.specs.Reading.{◌>>=◌, both, shown, nothing}
 use Rattle.transcript.specs.declared.fault.LineKind.{LineKind}
 use Rattle.transcript.specs.declared.fault.LineFault.{LineFault}
 use Rattle.transcript.specs.declared.fault.LineKind.TheVariants as kind
@@ -17,7 +17,7 @@ use Rattle.transcript.specs.declared.kinds.Limit.TheVariants as limit
 use Rattle.transcript.specs.declared.line.ShownState.{ShownState}
 use Rattle.transcript.specs.declared.line.ShownFrame.{ShownFrame}
 use Rattle.transcript.specs.Fields.{number_of, tuple_of, party_of, bytes_of, value_of}
-use Rattle.text_lines.specs.Words.{both, shown, given, by_key}
+use Rattle.text_lines.specs.Words.{by_key}
 use Rattle.transcript.specs.Words.{Reader, Fails, one, unless, end_at}
 
 -- ---- fields
@@ -86,7 +86,7 @@ limit_line (node, limit.Instance ring) = line.InstanceLimit (record { 0 = node }
 limit_line (node, limit.Attempt) = line.AttemptLimit (record { 0 = node })
 
 abbrev pub limits : List (List ℕ × Reader Limit)
-limits = (codes "ballot", shown limit.Ballot id_at) ∷ (codes "instance", shown limit.Instance id_at) ∷ (codes "attempt", given limit.Attempt) ∷ []
+limits = (codes "ballot", shown limit.Ballot id_at) ∷ (codes "instance", shown limit.Instance id_at) ∷ (codes "attempt", nothing limit.Attempt) ∷ []
 
 unfoldable pub limit_of : Reader Limit
 limit_of = by_key kind.Word limits
@@ -95,7 +95,7 @@ unfoldable pub limit_at : Reader Line
 limit_at = shown limit_line (both id_at limit_of)
 
 abbrev pub causes : List (List ℕ × Reader Cause)
-causes = (codes "crash", given cause.Crash) ∷ (codes "disk", given cause.Disk) ∷ (codes "full", given cause.Full) ∷ []
+causes = (codes "crash", nothing cause.Crash) ∷ (codes "disk", nothing cause.Disk) ∷ (codes "full", nothing cause.Full) ∷ []
 
 unfoldable pub cause_at : Reader Cause
 cause_at = by_key kind.Word causes

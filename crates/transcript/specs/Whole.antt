@@ -3,7 +3,7 @@ use Rattle.std.specs.Prelude.{ℕ, ◌≡◌, ◌≤◌, ◌+◌, ◌^◌, nat_l
 use Rattle.std.specs.List.{AllByRecursion}
 use Rattle.text_lines.specs.Split.{lines_of, line_bytes as text_bytes}
 use Rattle.text_lines.specs.Split.{Line as TextLine}
-use Rattle.text_lines.specs.Reading.{◌>>=◌}
+use Rattle.mrp_types.specs.Reading.{◌>>=◌}
 use Rattle.transcript.specs.declared.fault.LineFault.{LineFault}
 use Rattle.transcript.specs.declared.fault.LineKind.{LineKind}
 use Rattle.transcript.specs.declared.fault.LineKind.TheVariants as kind

@@ -1,7 +1,9 @@
 -- Reading words from the left: what is read and the words behind it, or the first fault.
 use Rattle.std.specs.Prelude.{ℕ, ◌≡◌, ◌⊎◌, if◌then◌else◌, List, [], ◌∷◌, Option, Result, Ok, Err}
+use Rattle.mrp_types.specs.Reading as reading
 use Rattle.std.specs.Option.{ok_or}
-use Rattle.text_lines.specs.Reading.{◌>>=◌, word_or, is_first}
+use Rattle.mrp_types.specs.Reading.{◌>>=◌}
+use Rattle.text_lines.specs.Reading.{word_or, is_first}
 use Rattle.text_lines.specs.Words.{Reader as AnyReader, one as any_one}
 use Rattle.transcript.specs.declared.fault.LineKind.{LineKind}
 use Rattle.transcript.specs.declared.fault.LineKind.TheVariants.{Word, Left, Memory}
@@ -12,21 +14,18 @@ Reader V = AnyReader LineKind V
 
 -- What a call read, seen by view, and what is left, are what reading gives.
 abbrev pub Gives : {X Y W : Type 0} → (X → Y) → Result (Y × W) LineKind → Result X LineKind → W → Type 0
-Gives view read (Ok x) left = read ≡ Ok (view x, left)
-Gives view read (Err kind) left = read ≡ Err kind
+Gives view read result left = reading.Gives view read result left
 
 -- The same, unless memory ran out.
 abbrev pub Fails : {Y : Type 0} → Result Y LineKind → LineKind → Type 0
-Fails read kind = (kind ≡ Memory) ⊎ (read ≡ Err kind)
+Fails read fault = reading.Fails Memory read fault
 
 abbrev pub Reads : {X Y W : Type 0} → (X → Y) → Result (Y × W) LineKind → Result X LineKind → W → Type 0
-Reads view read (Ok x) left = read ≡ Ok (view x, left)
-Reads view read (Err kind) left = Fails read kind
+Reads view read result left = reading.Reads Memory view read result left
 
 -- the same of a call that leaves nothing
 abbrev pub Says : {X Y : Type 0} → (X → Y) → Result Y LineKind → Result X LineKind → Type 0
-Says view read (Ok x) = read ≡ Ok (view x)
-Says view read (Err kind) = Fails read kind
+Says view read result = reading.Says Memory view read result
 
 -- the next word
 abbrev pub word_at : Reader (List ℕ)

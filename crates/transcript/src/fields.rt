@@ -5,14 +5,10 @@ ghost use Rattle.transcript.specs.Fields.{number_of, tuple_of, party_of, bytes_o
 
 use crate::Instances;
 use command_codec::is_batch;
+use mrp_types::limits::{RINGS, VALUE};
 use mrp_types::{ClientId, Memory, NodeId, Octets, Party, Payload, Value};
 use std::alloc::Global;
 use text_lines::{TextFault, Words, bytes_of_word, number_of_word};
-
-// The most instances of a tuple, and the most bytes of a value.
-const INSTANCES: usize = 16;
-
-const VALUE: usize = 8_192;
 
 /// The number of a node, a ring or a client that a word spells.
 #[tactic(auto, unfolding(crate::specs::Fields::number_of))]
@@ -94,7 +90,7 @@ pub fn tuple_of_word(alloc: Global, word: &[u8]) -> Result<Option<Instances>, Me
 {
     let mut pieces = Words::split(word, b',');
     let mut tuple = Instances::new(alloc);
-    for _turn in 0..INSTANCES {
+    for _turn in 0..RINGS {
         let Ok(piece) = pieces.word() else {
             return Ok(Some(tuple));
         };

@@ -19,12 +19,12 @@ ghost use Rattle.verdicts.specs.Texts.{verdict_of, frame_fault_text, codec_fault
 use crate::faults::{
     codec_fault, config_fault, frame_fault, line_fault, said, said_in_hex, schedule_fault,
 };
-use command_codec::limits::VALUE;
 use command_codec::{
     Command, read_batch, read_command, read_reply, write_batch, write_command, write_reply,
 };
 use frames::Frame;
 use mrp_config::Deployment;
+use mrp_types::limits::VALUE;
 use mrp_types::{ClientId, Entry, Memory, Octets};
 use schedule::{Schedule, ScheduleEvent};
 use std::alloc::Global;

@@ -11,7 +11,8 @@ use Rattle.mrp_types.specs.declared.value.Value.{Value}
 use Rattle.command_codec.specs.declared.fault.CodecFault.{CodecFault}
 use Rattle.command_codec.specs.declared.fault.CodecFault.TheVariants.{BadKind, BadField, Left}
 use Rattle.command_codec.specs.Fields.{u32_bytes, u64_bytes}
-use Rattle.command_codec.specs.Reader.{Spot, Reader, ◌>>=◌, byte_at, number_at, within, both, shown, nothing, ended, whole, start, Fails, Reads, Says}
+use Rattle.mrp_types.specs.Reading.{◌>>=◌, both, shown, nothing}
+use Rattle.command_codec.specs.Reader.{Spot, Reader, byte_at, number_at, within, ended, whole, start, Fails, Reads, Says}
 use Rattle.mrp_types.proofs.TestLemmas.{both as both_tests, below}
 use Rattle.command_codec.proofs.ReaderLaws.{AreBytes, bound, ok_is, then_was, Took, took_both, Again, Field, number_law, wide32, rest_are}
 use Rattle.command_codec.proofs.Combined.{follow_law, both_law, shown_was, kind_was, kind_again, chosen}
@@ -209,7 +210,7 @@ past_is spot h = nil_from_length spot.rest (eqb-true _ _ h)
 abbrev pub WereRead : Spot → List Change × Spot → Type 0
 WereRead spot x = Took spot (changes_bytes x.0) x.1 × AllByRecursion IsChange x.0
 
-none_read : (spot : Spot) (x : List Change × Spot) → AreBytes spot.rest → nothing {V = List Change} [] spot ≡ Ok x → WereRead spot x
+none_read : (spot : Spot) (x : List Change × Spot) → AreBytes spot.rest → nothing {E = CodecFault} {V = List Change} [] spot ≡ Ok x → WereRead spot x
 none_read spot x are h = subst (λ (y : List Change × Spot). WereRead spot y) (ok_is ([], spot) x h) (record { parts = refl; bytes = are }, tt)
 
 changes_were : (most : ℕ) (spot : Spot) (x : List Change × Spot) → AreBytes spot.rest → changes_at most spot ≡ Ok x → WereRead spot x

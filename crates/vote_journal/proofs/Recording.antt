@@ -18,7 +18,8 @@ use Rattle.vote_journal.specs.declared.fault.OpenFault.TheVariants.{BadRecord}
 use Rattle.vote_journal.specs.Epochs.{epochs_rise}
 use Rattle.vote_journal.specs.Spelling.{record_bytes}
 use Rattle.vote_journal.specs.Grammar.{is_newer, changes_of, first_of}
-use Rattle.vote_journal.specs.Journal.{◌>>=◌, with_changes, with_record, with_records, first_state, state_of, Journal, state_in, Stands, BeforeOrAfter}
+use Rattle.mrp_types.specs.Reading.{◌>>=◌}
+use Rattle.vote_journal.specs.Journal.{with_changes, with_record, with_records, first_state, state_of, Journal, state_in, Stands, BeforeOrAfter}
 use Rattle.vote_journal.proofs.RecordLaws.{all_again}
 
 abbrev pub ok : State → Result State OpenFault

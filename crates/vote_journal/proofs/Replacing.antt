@@ -10,7 +10,8 @@ use Rattle.disk_model.specs.declared.areas.Areas.{Areas}
 use Rattle.disk_model.specs.Calls.{Told, LeavesOnly, reads}
 use Rattle.command_codec.specs.declared.fault.CodecFault.{CodecFault}
 use Rattle.command_codec.specs.declared.fault.CodecFault.TheVariants.{BadField, BadKind, Left}
-use Rattle.command_codec.specs.Reader.{Spot, byte_at, both, shown, ended, start}
+use Rattle.mrp_types.specs.Reading.{both, shown, ◌>>=◌}
+use Rattle.command_codec.specs.Reader.{Spot, byte_at, ended, start}
 use Rattle.command_codec.proofs.ReaderLaws.{bound, then_was, ok_is as read_is}
 use Rattle.command_codec.proofs.Combined.{shown_was, chosen}
 use Rattle.gate_log.specs.Journal.{Log, Holds}
@@ -29,7 +30,7 @@ use Rattle.vote_journal.specs.declared.record.First.{First}
 use Rattle.vote_journal.specs.Epochs.{epochs_rise}
 use Rattle.vote_journal.specs.Spelling.{first_bytes, is_epoch_first}
 use Rattle.vote_journal.specs.Grammar.{is_newer, in_format, changes_of, changes_at, first_changes_at, first_at, first_size, first_of}
-use Rattle.vote_journal.specs.Journal.{◌>>=◌, with_changes, with_record, with_records, first_state, state_of, Journal, Stands, BeforeOrAfter}
+use Rattle.vote_journal.specs.Journal.{with_changes, with_record, with_records, first_state, state_of, Journal, Stands, BeforeOrAfter}
 use Rattle.vote_journal.proofs.RecordLaws.{in_either_format, whole_first_again, made_first}
 use Rattle.vote_journal.proofs.Recording.{ok, ok_is, as_states}
 

@@ -1,5 +1,6 @@
 -- Why an operation on a journal is refused, by why one on its log is.
 use Rattle.std.specs.Prelude.{◌≡◌, ◌⊎◌, ◌≤◌, ℕ, IsErrOf, OnOk, Result, Ok, Err}
+use Rattle.mrp_types.specs.Reading as reading
 use Rattle.mrp_types.specs.declared.id.NodeId.{NodeId}
 use Rattle.disk_model.specs.declared.area.Area.{Area}
 use Rattle.disk_model.specs.Causes.{Rose}
@@ -26,8 +27,7 @@ refused_as logs.Memory = journals.Memory
 
 -- what a call that judges gives: the value, unless memory was wanting
 abbrev pub Says : {T : Type 0} → Result T OpenFault → Result T OpenFault → Type 0
-Says walked (Ok x) = walked ≡ Ok x
-Says walked (Err fault) = (fault ≡ opens.Memory) ⊎ (walked ≡ Err fault)
+Says walked result = reading.Says opens.Memory (λ x. x) walked result
 
 -- why the bytes at a place are no record
 abbrev pub refused_at : ℕ → CodecFault → OpenFault

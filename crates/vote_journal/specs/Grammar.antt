@@ -5,7 +5,8 @@ use Rattle.mrp_types.specs.declared.id.RingId.{RingId}
 use Rattle.mrp_types.specs.declared.value.Value.{Value}
 use Rattle.command_codec.specs.declared.fault.CodecFault.{CodecFault}
 use Rattle.command_codec.specs.declared.fault.CodecFault.TheVariants.{BadKind, BadField}
-use Rattle.command_codec.specs.Reader.{Spot, Reader, ◌>>=◌, byte_at, number_at, follow, both, shown, whole}
+use Rattle.mrp_types.specs.Reading.{◌>>=◌, follow, both, shown}
+use Rattle.command_codec.specs.Reader.{Spot, Reader, byte_at, number_at, whole}
 use Rattle.vote_state.specs.declared.change.Change.{Change}
 use Rattle.vote_state.specs.declared.change.Change.TheVariants.{Epoch, Promise, Vote, Trim}
 use Rattle.vote_journal.specs.declared.record.First.{First}

@@ -1,5 +1,6 @@
 -- A journal on a disk: the state that its records stand for, and the calls of each operation.
 use Rattle.std.specs.Prelude.{◌≡◌, ◌⊎◌, ℕ, ◌+◌, ◌-◌, ◌<◌, ◌≤◌, ◌^◌, ◌==◌, ◌||◌, not, if◌then◌else◌, Bool, List, [], ◌∷◌, ◌++◌, length, Option, Result, Ok, Err}
+use Rattle.mrp_types.specs.Reading.{◌>>=◌}
 use Rattle.mrp_types.specs.declared.id.NodeId.{NodeId}
 use Rattle.disk_model.specs.declared.area.Area.{Area}
 use Rattle.disk_model.specs.declared.areas.Areas.{Areas}
@@ -21,12 +22,6 @@ use Rattle.vote_journal.specs.Spelling.{record_bytes, first_bytes}
 use Rattle.vote_journal.specs.Grammar.{is_newer, changes_of, first_of}
 
 -- ---- what records stand for
-
--- the second step, where the first found no fault
-infixl 10 ◌>>=◌
-abbrev pub ◌>>=◌ : {A B : Type 0} → Result A OpenFault → (A → Result B OpenFault) → Result B OpenFault
-(Ok x) >>= f = f x
-(Err fault) >>= f = Err fault
 
 -- the state once these changes of a record at a place were made
 abbrev pub with_changes : ℕ → State → Result (List Change) CodecFault → Result State OpenFault

@@ -8,12 +8,10 @@ ghost use Rattle.vote_state.specs.Valid.{IsChange, IsVoted};
 
 use crate::ring::{RingState, add_ring, holds, ranges_from};
 use crate::{Change, Changes};
+use mrp_types::limits::RINGS;
 use mrp_types::{Ballot, Inst, Memory, RingId, Voted, Votes};
 use std::alloc::Global;
 use std::marker::Model;
-
-/// How many rings there are.
-const RINGS: usize = 16;
 
 /// The epoch of a node and, per ring, the promise, the trim and the votes of its acceptor. Runs of
 /// equal votes are kept as one, so a vote costs the same for any number of instances.

@@ -1,5 +1,6 @@
 use Rattle.std.proofs.Common.{◌≡◌, ◌-◌}
-use Rattle.command_codec.specs.Reader.{each, passed}
+use Rattle.mrp_types.specs.Reading.{each}
+use Rattle.command_codec.specs.Reader.{passed}
 use Rattle.command_codec.specs.Grammar.{entry_at}
 use Rattle.command_codec.proofs.batch_test.pass_entries.Given as goal
 

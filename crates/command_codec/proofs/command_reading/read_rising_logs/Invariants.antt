@@ -1,5 +1,5 @@
 use Rattle.std.proofs.Common.{◌≡◌, ◌-◌}
-use Rattle.command_codec.specs.Reader.{chain}
+use Rattle.mrp_types.specs.Reading.{chain}
 use Rattle.command_codec.specs.Grammar.{log_from, after_log}
 use Rattle.command_codec.proofs.Loops.{before}
 use Rattle.command_codec.proofs.command_reading.read_rising_logs.Given as goal

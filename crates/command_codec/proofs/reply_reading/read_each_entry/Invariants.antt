@@ -1,5 +1,5 @@
 use Rattle.std.proofs.Common.{◌≡◌, ◌-◌, []}
-use Rattle.command_codec.specs.Reader.{chain}
+use Rattle.mrp_types.specs.Reading.{chain}
 use Rattle.command_codec.specs.Grammar.{table_entry_at, key_of}
 use Rattle.command_codec.proofs.Loops.{before}
 use Rattle.command_codec.proofs.reply_reading.read_each_entry.Given as goal

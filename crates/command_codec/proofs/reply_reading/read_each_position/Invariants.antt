@@ -1,5 +1,5 @@
 use Rattle.std.proofs.Common.{◌≡◌, ◌-◌}
-use Rattle.command_codec.specs.Reader.{each}
+use Rattle.mrp_types.specs.Reading.{each}
 use Rattle.command_codec.specs.Grammar.{position_at}
 use Rattle.command_codec.proofs.Loops.{before}
 use Rattle.command_codec.proofs.reply_reading.read_each_position.Given as goal

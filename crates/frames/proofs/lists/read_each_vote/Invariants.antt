@@ -1,5 +1,5 @@
 use Rattle.std.proofs.Common.{◌≡◌, ◌-◌}
-use Rattle.command_codec.specs.Reader.{chain}
+use Rattle.mrp_types.specs.Reading.{chain}
 use Rattle.command_codec.proofs.Loops.{before}
 use Rattle.frames.specs.Ranges.{nothing_before, after_vote}
 use Rattle.frames.specs.Grammar.{vote_at}

@@ -1,5 +1,5 @@
 use Rattle.std.proofs.Common.{◌≡◌, ◌-◌, length}
-use Rattle.command_codec.specs.Reader.{chain}
+use Rattle.mrp_types.specs.Reading.{chain}
 use Rattle.command_codec.proofs.Loops.{before}
 use Rattle.frames.specs.Grammar.{next_at, after_ring}
 use Rattle.frames.proofs.Tuples.{AreNextsTo}
