@@ -6,14 +6,7 @@ use Rattle.frames.specs.declared.sent.Sent.{Sent}
 use Rattle.protocol.specs.Lines.{Line}
 use Rattle.protocol.specs.Node.{StepSoFar, RingPart, Service, Stage, prints, sends_all, with_stage}
 use Rattle.beside_rings.specs.Beside.{IsQuietSent, IsNoLearn, Follows, SameBut, AreSame, Untouched}
-
-pub mapped : {T : Type 0} (P Q : T → Type 0) → ((x : T) → P x → Q x) → (xs : List T) → AllByRecursion P xs → AllByRecursion Q xs
-mapped P Q h [] all = tt
-mapped P Q h (x ∷ xs) all = (h x all.0, mapped P Q h xs all.1)
-
-pub appended : {T : Type 0} (P : T → Type 0) (xs ys : List T) → AllByRecursion P xs → AllByRecursion P ys → AllByRecursion P (xs ++ ys)
-appended P [] ys a b = b
-appended P (x ∷ xs) ys a b = (a.0, appended P xs ys a.1 b)
+use Rattle.quorums.proofs.Each.{mapped, appended}
 
 -- ---- what is added to a list
 

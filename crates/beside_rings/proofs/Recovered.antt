@@ -25,8 +25,9 @@ use Rattle.protocol.specs.Recovery.{epoch_of, own_tuple, others_of, with_lowered
 use Rattle.protocol.specs.Step.{waits_below, begins_if_waits_below, after_trim, recovers_if_trimmed, tells_safe, at_service, at_attempt, recovering}
 use Rattle.protocol.specs.Tick.{recovery_ticks_at}
 use Rattle.beside_rings.specs.Beside.{IsQuiet, IsQuietSent, IsNoLearn, AreSame, Untouched}
-use Rattle.beside_rings.proofs.Following.{appended, Follows-refl, Untouched-refl, Untouched-trans, untouched_prints, untouched_sends, untouched_stage}
+use Rattle.beside_rings.proofs.Following.{Follows-refl, Untouched-refl, Untouched-trans, untouched_prints, untouched_sends, untouched_stage}
 use Rattle.beside_rings.proofs.Merge.{merges_untouched}
+use Rattle.quorums.proofs.Each.{appended}
 
 -- ---- words
 

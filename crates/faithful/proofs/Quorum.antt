@@ -13,6 +13,7 @@ use Rattle.protocol.specs.Trimming.{has_answered}
 use Rattle.faithful.specs.Scanners.{entry_of, Reaches, some_reaches}
 use Rattle.faithful.specs.Answers.{AreDifferent, Both}
 use Rattle.faithful.proofs.Ordering.{or_false, or_true}
+use Rattle.quorums.proofs.Each.{mapped}
 
 -- ---- lists
 
@@ -20,14 +21,6 @@ pub all_has : {T : Type 0} (P : T → Type 0) (xs : List T) (x : T) → AllByRec
 all_has P [] x all h = absurd h
 all_has P (y ∷ ys) x all (inl e) = subst (λ z. P z) (sym e) all.0
 all_has P (y ∷ ys) x all (inr h) = all_has P ys x all.1 h
-
-pub appended : {T : Type 0} (P : T → Type 0) (xs ys : List T) → AllByRecursion P xs → AllByRecursion P ys → AllByRecursion P (xs ++ ys)
-appended P [] ys p q = q
-appended P (x ∷ xs) ys p q = (p.0, appended P xs ys p.1 q)
-
-pub mapped : {T : Type 0} (P Q : T → Type 0) → ((x : T) → P x → Q x) → (xs : List T) → AllByRecursion P xs → AllByRecursion Q xs
-mapped P Q f [] all = tt
-mapped P Q f (x ∷ xs) all = (f x all.0, mapped P Q f xs all.1)
 
 pub count_cons : {T : Type 0} (f : T → Bool) (x : T) (xs : List T) → count_by f (x ∷ xs) ≡ cond (f x) 1 0 + count_by f xs
 count_cons f x xs = sum_by-cons (λ y. cond (f y) 1 0) x xs

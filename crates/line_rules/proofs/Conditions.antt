@@ -1,5 +1,6 @@
 -- The test of a rule is that all of its conditions hold.
 use Rattle.std.proofs.Common.{◌≡◌, ℕ, Bool, true, false, List, [], ◌∷◌, Option, Some, None, refl, sym}
+use Rattle.std.specs.List.{list_all}
 use Rattle.std.specs.Prelude.{◌&&◌, ◌==◌, not, is_some, bytes_eq}
 use Rattle.mrp_types.specs.Values.{is_skip}
 use Rattle.mrp_config.specs.Config.{Config, has_node, partition_of}
@@ -11,7 +12,7 @@ use Rattle.transcript.specs.declared.line.Line.TheVariants.{Learn, Deliver, Repl
 use Rattle.line_rules.specs.Scanners.{up_epoch, attempting, chosen, before_begin, told, begun, position, learned, paired}
 use Rattle.line_rules.specs.Names.{Rule}
 use Rattle.line_rules.specs.Names as rule
-use Rattle.line_rules.specs.Tests.{is_some_that, all_pass, is_ready, each_between, each_below, is_shown, is_fit, is_pair, is_among, is_trim_reached, reaches, is_later, is_in_turn, do_names_fit, keeps_f1, keeps_f2, keeps_f3, keeps_f4, keeps_f5, keeps_f6, keeps_f7, keeps_f8, keeps_f9, delivers, stands, shows, chooses, restores, begins, refuses}
+use Rattle.line_rules.specs.Tests.{is_some_that, is_ready, each_between, each_below, is_shown, is_fit, is_pair, is_among, is_trim_reached, reaches, is_later, is_in_turn, do_names_fit, keeps_f1, keeps_f2, keeps_f3, keeps_f4, keeps_f5, keeps_f6, keeps_f7, keeps_f8, keeps_f9, delivers, stands, shows, chooses, restores, begins, refuses}
 use Rattle.line_rules.specs.Verdict.{keeps}
 use Rattle.line_rules.specs.Conditions.{all_hold, of_replica, deliver_conditions, tuple_conditions, show_conditions, choose_conditions, restore_conditions, begin_conditions, refuse_conditions, name_conditions, conditions_1, conditions_2, conditions_3, conditions_4, conditions_5, conditions_6, conditions_7, conditions_8, conditions_9, conditions}
 
@@ -78,7 +79,7 @@ module _ (c : Config) (before : List Line) where
   is_6 (Chose node epoch attempt printed from) =
       of_replica_is (choose_conditions c before node epoch attempt printed from) (chooses c before node epoch attempt printed from)
       (λ p. fit_joined p printed (is_some_that (is_some_that (is_pair epoch attempt)) (attempting node.0 before) &&
-      (is_some_that (all_pass (is_trim_reached p.rings printed)) (before_begin node.0 before) && (has_node p.replicas from.0 && is_among printed (told from.0 before)))))
+      (is_some_that (list_all (is_trim_reached p.rings printed)) (before_begin node.0 before) && (has_node p.replicas from.0 && is_among printed (told from.0 before)))))
       (partition_of c.partitions node)
   is_6 (Restore node printed) =
       of_replica_is (restore_conditions c before node printed) (restores c before node printed)
@@ -93,8 +94,8 @@ module _ (c : Config) (before : List Line) where
   is_8 : (line : Line) → all_hold (conditions_8 c before line) ≡ keeps_f8 c before line
   is_8 (Begin node epoch attempt printed) =
       of_replica_is (begin_conditions c before node epoch attempt printed) (begins c before node epoch attempt printed)
-      (λ p. fit_joined p printed (all_pass (reaches printed) (told node.0 before) && (is_some_that (is_some_that (λ (e : ℕ). e == epoch)) (up_epoch node.0 before) &&
-      (all_pass (is_later (epoch, attempt)) (begun node.0 before) && each_below is_some (learned before) (paired p.rings printed)))))
+      (λ p. fit_joined p printed (list_all (reaches printed) (told node.0 before) && (is_some_that (is_some_that (λ (e : ℕ). e == epoch)) (up_epoch node.0 before) &&
+      (list_all (is_later (epoch, attempt)) (begun node.0 before) && each_below is_some (learned before) (paired p.rings printed)))))
       (partition_of c.partitions node)
   is_8 (Saved node printed) = refl
   is_8 other = refl

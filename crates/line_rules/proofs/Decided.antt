@@ -2,7 +2,7 @@
 use Rattle.std.proofs.Common.{◌≡◌, ℕ, ◌+◌, ◌<◌, ◌≤◌, inl, inr, Bool, true, false, List, [], ◌∷◌, length, Option, Some, None, refl, sym, ◌∙◌, ap, subst, arith}
 use Rattle.std.specs.Prelude.{◌==◌, nat_le, ◌&&◌, ◌||◌, not, is_some, bytes_eq, if◌then◌else◌, count_by}
 use Rattle.std.specs.Bool.{Decides}
-use Rattle.std.specs.List.{AllByRecursion}
+use Rattle.std.specs.List.{AllByRecursion, list_all}
 use Rattle.std.proofs.lemmas.Bool.Decides.{Decides-and, Decides-or, Decides-eqb, Decides-ltb, Decides-not}
 use Rattle.std.proofs.lemmas.Slice.Eq.{bytes_eq-Decides}
 use Rattle.mrp_types.specs.declared.id.NodeId.{NodeId}
@@ -33,7 +33,7 @@ use Rattle.line_rules.specs.Scanners.{Restored, life, up_epoch, attempting, unch
 use Rattle.quorums.specs.Groups.{Has}
 use Rattle.line_rules.specs.Owed.{owed}
 use Rattle.line_rules.specs.Rules.{HasNode, HasRing, HasClient, AllKnown, BySkips, Fits, IsLater, Learns, F1, F2, HasParty, NamesFit, IsInTurn, F3, F4, F5, IsReached, Chooses, Restores, F6, HaveTold, AllHaveTold, F7, Begins, F8, F9}
-use Rattle.line_rules.specs.Tests.{is_some_that, all_pass, is_empty, has_node_of, has_ring_of, has_client_of, is_ready, each_passes, each_between, each_below, is_by_skips, is_reached, is_fit, reaches, is_later, is_wide, agrees, learns, keeps_f1, is_batch, delivers, stands, keeps_f2, is_first, has_party, do_names_fit, is_in_turn, keeps_f3, shows, keeps_f4, keeps_f5, is_trim_reached, chooses, restores, keeps_f6, have_told, all_have_told, keeps_f7, begins, is_past, keeps_f8, refuses, keeps_f9}
+use Rattle.line_rules.specs.Tests.{is_some_that, is_empty, has_node_of, has_ring_of, has_client_of, is_ready, each_passes, each_between, each_below, is_by_skips, is_reached, is_fit, reaches, is_later, is_wide, agrees, learns, keeps_f1, is_batch, delivers, stands, keeps_f2, is_first, has_party, do_names_fit, is_in_turn, keeps_f3, shows, keeps_f4, keeps_f5, is_trim_reached, chooses, restores, keeps_f6, have_told, all_have_told, keeps_f7, begins, is_past, keeps_f8, refuses, keeps_f9}
 use Rattle.line_rules.proofs.Words.{no_true, itself, like, le_decides, nothing, some_same, some_decides, that_decides, at_decides, all_decides, has_decides, among_decides, bytes_decide, attempt_decides, ready_decides, skips_decide, value_decides, node_same, ring_same, client_same}
 use Rattle.line_rules.proofs.Printed.{rings_fit, printed_is}
 use Rattle.line_rules.proofs.Ranges.{book_learned, Pass, range_decides, between_are, are_between, below_decides}
@@ -371,7 +371,7 @@ module _ (c : Config) (before : List Line) where
       (λ (p : PartitionTable). Fits m p printed × ((attempting node.0 before ≡ Some (Some (epoch, attempt))) × (((earlier : List Line) × ((before_begin node.0 before ≡ Some earlier) × AllByRecursion (IsReached p.rings printed) earlier)) × ((has_node p.replicas from.0 ≡ true) × Has (told from.0 before) printed))))
       (partition_of c.partitions node)
       (λ p e. Decides-and _ _ (fit_decides p printed) (Decides-and _ _ (attempt_decides epoch attempt (attempting node.0 before))
-      (Decides-and _ _ (that_decides (all_pass (is_trim_reached p.rings printed)) (λ (earlier : List Line). AllByRecursion (IsReached p.rings printed) earlier) (before_begin node.0 before)
+      (Decides-and _ _ (that_decides (list_all (is_trim_reached p.rings printed)) (λ (earlier : List Line). AllByRecursion (IsReached p.rings printed) earlier) (before_begin node.0 before)
       (λ earlier b. all_decides (is_trim_reached p.rings printed) (λ (line : Line). IsReached p.rings printed line) (λ line. trim_decides p.rings printed line) earlier))
       (Decides-and _ _ (itself (has_node p.replicas from.0)) (among_decides printed (told from.0 before)))))))
       (λ h. record { partition = h.0; replica = h.1.0; fits = h.1.1.0; current = h.1.1.1.0; earlier = h.1.1.1.1.0.0; begins = h.1.1.1.1.0.1.0; trims = h.1.1.1.1.0.1.1; other = h.1.1.1.1.1.0; told = h.1.1.1.1.1.1 })

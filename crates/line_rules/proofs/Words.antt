@@ -2,7 +2,7 @@
 use Rattle.std.proofs.Common.{◌≡◌, ℕ, ◌≤◌, inl, inr, Bool, true, false, List, [], ◌∷◌, Option, Some, None, refl, sym, ◌∙◌, ap, subst, true≢false}
 use Rattle.std.specs.Prelude.{◌==◌, nat_le, is_some, bytes_eq}
 use Rattle.std.specs.Bool.{Decides}
-use Rattle.std.specs.List.{AllByRecursion}
+use Rattle.std.specs.List.{AllByRecursion, list_all}
 use Rattle.std.proofs.lemmas.Bool.Decides.{Decides-and, Decides-or, Decides-eqb, Decides-like}
 use Rattle.std.proofs.lemmas.Slice.Eq.{bytes_eq-Decides}
 use Rattle.mrp_types.specs.declared.id.NodeId.{NodeId}
@@ -16,7 +16,7 @@ use Rattle.plain_model.proofs.TupleChain.{is_le, le_is}
 use Rattle.transcript.specs.declared.line.Line.{Line}
 use Rattle.line_rules.specs.Scanners.{Mark, Opened, Closed, Begun, Restored, life}
 use Rattle.quorums.specs.Groups.{Has}
-use Rattle.line_rules.specs.Tests.{is_some_that, all_pass, is_restored, is_ready, is_same_value, is_pair, is_among}
+use Rattle.line_rules.specs.Tests.{is_some_that, is_restored, is_ready, is_same_value, is_pair, is_among}
 
 -- ---- tests
 
@@ -62,18 +62,18 @@ at_decides {T} test x each (Some y) = (λ h. ap (λ (z : T). Some z) ((each y).0
 
 -- ---- lists
 
-pub all_decides : {T : Type 0} (test : T → Bool) (P : T → Type 0) → ((x : T) → Decides (test x) (P x)) → (xs : List T) → Decides (all_pass test xs) (AllByRecursion P xs)
+pub all_decides : {T : Type 0} (test : T → Bool) (P : T → Type 0) → ((x : T) → Decides (test x) (P x)) → (xs : List T) → Decides (list_all test xs) (AllByRecursion P xs)
 all_decides test P each [] = (λ h. tt, λ h. refl)
-all_decides test P each (x ∷ xs) = Decides-and (test x) (all_pass test xs) (each x) (all_decides test P each xs)
+all_decides test P each (x ∷ xs) = Decides-and (test x) (list_all test xs) (each x) (all_decides test P each xs)
 
-pub has_decides : {T : Type 0} (test : T → Bool) (P : T → Type 0) → ((x : T) → Decides (test x) (P x)) → (xs : List T) → Decides (all_pass test xs) ((x : T) → Has xs x → P x)
+pub has_decides : {T : Type 0} (test : T → Bool) (P : T → Type 0) → ((x : T) → Decides (test x) (P x)) → (xs : List T) → Decides (list_all test xs) ((x : T) → Has xs x → P x)
 has_decides test P each [] = (λ h x m. absurd m, λ h. refl)
 has_decides test P each (y ∷ xs) = (
   λ h x m. elim m [
-    | inl e ↦ subst P (sym e) ((each y).0 (split_and (test y) (all_pass test xs) h).0)
-    | inr later ↦ (has_decides test P each xs).0 (split_and (test y) (all_pass test xs) h).1 x later
+    | inl e ↦ subst P (sym e) ((each y).0 (split_and (test y) (list_all test xs) h).0)
+    | inr later ↦ (has_decides test P each xs).0 (split_and (test y) (list_all test xs) h).1 x later
   ],
-  λ h. both_true (test y) (all_pass test xs) ((each y).1 (h y (inl refl))) ((has_decides test P each xs).1 (λ x m. h x (inr m))),
+  λ h. both_true (test y) (list_all test xs) ((each y).1 (h y (inl refl))) ((has_decides test P each xs).1 (λ x m. h x (inr m))),
 )
 
 pub among_decides : (printed : List ℕ) (tuples : List (List ℕ)) → Decides (is_among printed tuples) (Has tuples printed)

@@ -1,5 +1,6 @@
 -- The conditions of each rule, one by one, in the order in which its statement has them. The test of a rule is that all of them hold.
 use Rattle.std.specs.Prelude.{ℕ, suc, ◌==◌, nat_le, nat_lt, ◌&&◌, not, Bool, true, false, List, [], ◌∷◌, ◌++◌, is_some, bytes_eq, Option, Some, None}
+use Rattle.std.specs.List.{list_all}
 use Rattle.mrp_types.specs.declared.id.NodeId.{NodeId}
 use Rattle.mrp_types.specs.declared.id.RingId.{RingId}
 use Rattle.mrp_types.specs.declared.id.TheConstants.{END}
@@ -14,7 +15,7 @@ use Rattle.transcript.specs.declared.line.Line.TheVariants.{Learn, Deliver, Repl
 use Rattle.line_rules.specs.Scanners.{up_epoch, attempting, unchosen, chosen, before_begin, told, begun, paired, position, book, learned}
 use Rattle.line_rules.specs.Names.{Rule, rules}
 use Rattle.line_rules.specs.Names as rule
-use Rattle.line_rules.specs.Tests.{is_some_that, all_pass, is_empty, has_node_of, has_ring_of, has_client_of, is_ready, is_batch, each_passes, each_between, each_below, is_shown, is_pair, is_among, is_wide, agrees, has_party, is_in_turn, is_trim_reached, have_told, reaches, is_later, is_past}
+use Rattle.line_rules.specs.Tests.{is_some_that, is_empty, has_node_of, has_ring_of, has_client_of, is_ready, is_batch, each_passes, each_between, each_below, is_shown, is_pair, is_among, is_wide, agrees, has_party, is_in_turn, is_trim_reached, have_told, reaches, is_later, is_past}
 
 -- all of some hold
 abbrev pub all_hold : List Bool → Bool
@@ -105,7 +106,7 @@ abbrev pub choose_conditions : Config → List Line → NodeId → ℕ → ℕ �
 choose_conditions c before node epoch attempt printed from p =
     fit_conditions c printed p
     (is_some_that (is_some_that (is_pair epoch attempt)) (attempting node.0 before) ∷
-    is_some_that (all_pass (is_trim_reached p.rings printed)) (before_begin node.0 before) ∷
+    is_some_that (list_all (is_trim_reached p.rings printed)) (before_begin node.0 before) ∷
     has_node p.replicas from.0 ∷ is_among printed (told from.0 before) ∷ [])
 
 abbrev pub restore_conditions : Config → List Line → NodeId → List ℕ → PartitionTable → List Bool
@@ -122,7 +123,7 @@ conditions_6 c before other = []
 abbrev pub conditions_7 : Config → List Line → Line → List Bool
 conditions_7 c before (Trim node ring inst) =
     has_node_of c node ∷ has_ring_of c ring ∷ not (is_empty (subscribers_of c.partitions ring)) ∷
-    all_pass (have_told before ring inst) (subscribers_of c.partitions ring) ∷ []
+    list_all (have_told before ring inst) (subscribers_of c.partitions ring) ∷ []
 conditions_7 c before other = []
 
 -- F8, a begin line: the node is a replica; the tuple has an entry for each ring; it is valid; it is at or after all that the node
@@ -131,15 +132,15 @@ conditions_7 c before other = []
 abbrev pub begin_conditions : Config → List Line → NodeId → ℕ → ℕ → List ℕ → PartitionTable → List Bool
 begin_conditions c before node epoch attempt printed p =
     fit_conditions c printed p
-    (all_pass (reaches printed) (told node.0 before) ∷
+    (list_all (reaches printed) (told node.0 before) ∷
     is_some_that (is_some_that (λ (e : ℕ). e == epoch)) (up_epoch node.0 before) ∷
-    all_pass (is_later (epoch, attempt)) (begun node.0 before) ∷
+    list_all (is_later (epoch, attempt)) (begun node.0 before) ∷
     each_below is_some (learned before) (paired p.rings printed) ∷ [])
 
 abbrev pub conditions_8 : Config → List Line → Line → List Bool
 conditions_8 c before (Begin node epoch attempt printed) =
     of_replica (begin_conditions c before node epoch attempt printed) (partition_of c.partitions node)
-conditions_8 c before (Saved node printed) = all_pass (is_past printed) (told node.0 before) ∷ []
+conditions_8 c before (Saved node printed) = list_all (is_past printed) (told node.0 before) ∷ []
 conditions_8 c before other = []
 
 -- F9: the node is a replica; the attempt is open; the number needed is the recovery quorum; fewer answered.

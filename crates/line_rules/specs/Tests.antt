@@ -1,5 +1,6 @@
 -- A test for each rule, which decides it.
 use Rattle.std.specs.Prelude.{ℕ, ◌+◌, ◌==◌, nat_le, nat_lt, min, max, ◌&&◌, ◌||◌, not, Bool, true, false, List, [], ◌∷◌, is_some, Option, Some, None, count_by, bytes_eq}
+use Rattle.std.specs.List.{list_all}
 use Rattle.mrp_types.specs.declared.id.NodeId.{NodeId}
 use Rattle.mrp_types.specs.declared.id.RingId.{RingId}
 use Rattle.mrp_types.specs.declared.id.ClientId.{ClientId}
@@ -26,11 +27,6 @@ use Rattle.line_rules.specs.Owed.{owed}
 abbrev pub is_some_that : {T : Type 0} → (T → Bool) → Option T → Bool
 is_some_that test None = false
 is_some_that test (Some x) = test x
-
--- all of a list pass
-abbrev pub all_pass : {T : Type 0} → (T → Bool) → List T → Bool
-all_pass test [] = true
-all_pass test (x ∷ xs) = test x && all_pass test xs
 
 abbrev pub is_empty : {T : Type 0} → List T → Bool
 is_empty [] = true
@@ -207,7 +203,7 @@ is_trim_reached rings printed other = true
 
 abbrev pub chooses : Config → List Line → NodeId → ℕ → ℕ → List ℕ → NodeId → PartitionTable → Bool
 chooses c before node epoch attempt printed from p =
-    is_fit c p printed && (is_some_that (is_some_that (is_pair epoch attempt)) (attempting node.0 before) && (is_some_that (all_pass (is_trim_reached p.rings printed)) (before_begin node.0 before) && (has_node p.replicas from.0 && is_among printed (told from.0 before))))
+    is_fit c p printed && (is_some_that (is_some_that (is_pair epoch attempt)) (attempting node.0 before) && (is_some_that (list_all (is_trim_reached p.rings printed)) (before_begin node.0 before) && (has_node p.replicas from.0 && is_among printed (told from.0 before))))
 
 abbrev pub restores : Config → List Line → NodeId → List ℕ → PartitionTable → Bool
 restores c before node printed p = is_fit c p printed && (not (is_ready node before) && is_some_that (is_some_that (bytes_eq printed)) (chosen node.0 before))
@@ -223,7 +219,7 @@ abbrev pub have_told : List Line → RingId → ℕ → PartitionTable → Bool
 have_told before ring inst p = nat_le p.trim_quorum (count_by (λ (node : NodeId). some_reaches p.rings ring inst (told node.0 before)) p.replicas)
 
 abbrev pub all_have_told : List Line → RingId → ℕ → List PartitionTable → Bool
-all_have_told before ring inst partitions = not (is_empty partitions) && all_pass (have_told before ring inst) partitions
+all_have_told before ring inst partitions = not (is_empty partitions) && list_all (have_told before ring inst) partitions
 
 abbrev pub keeps_f7 : Config → List Line → Line → Bool
 keeps_f7 c before (Trim node ring inst) = has_node_of c node && (has_ring_of c ring && all_have_told before ring inst (subscribers_of c.partitions ring))
@@ -233,7 +229,7 @@ keeps_f7 c before other = true
 
 abbrev pub begins : Config → List Line → NodeId → ℕ → ℕ → List ℕ → PartitionTable → Bool
 begins c before node epoch attempt printed p =
-    is_fit c p printed && (all_pass (reaches printed) (told node.0 before) && (is_some_that (is_some_that (λ (e : ℕ). e == epoch)) (up_epoch node.0 before) && (all_pass (is_later (epoch, attempt)) (begun node.0 before) && each_below is_some (learned before) (paired p.rings printed))))
+    is_fit c p printed && (list_all (reaches printed) (told node.0 before) && (is_some_that (is_some_that (λ (e : ℕ). e == epoch)) (up_epoch node.0 before) && (list_all (is_later (epoch, attempt)) (begun node.0 before) && each_below is_some (learned before) (paired p.rings printed))))
 
 -- the first tuple is after the second
 abbrev pub is_past : List ℕ → List ℕ → Bool
@@ -241,7 +237,7 @@ is_past printed earlier = reaches printed earlier && not (reaches earlier printe
 
 abbrev pub keeps_f8 : Config → List Line → Line → Bool
 keeps_f8 c before (Begin node epoch attempt printed) = is_some_that (begins c before node epoch attempt printed) (partition_of c.partitions node)
-keeps_f8 c before (Saved node printed) = all_pass (is_past printed) (told node.0 before)
+keeps_f8 c before (Saved node printed) = list_all (is_past printed) (told node.0 before)
 keeps_f8 c before other = true
 
 -- ---- F9

@@ -13,7 +13,6 @@ use Rattle.protocol.specs.Lines as line
 use Rattle.protocol.specs.Node.{Stepped, RingPart}
 use Rattle.bare_world.specs.Worlds.{Possible, Host, Up, Down, World}
 use Rattle.faithful.specs.Scanners.{past}
-use Rattle.faithful.proofs.Quorum.{appended, mapped}
 use Rattle.recovery_lines.specs.Ties.{AreRight, AreCovered, PartTold, PartLines, IsOf, IsSaid, StepLines, IsPlaced, KnownLines}
 use Rattle.recovery_lines.proofs.More.{IsCovered-more, PartLines-more, PartTold-more, KnownLines-more}
 use Rattle.recovery_lines.proofs.Merging.{IsStill, many}
@@ -22,6 +21,7 @@ use Rattle.recovery_lines.proofs.Saving.{kept_down}
 use Rattle.step_lines.specs.Effects.{KeptFor, LeftTold}
 use Rattle.step_lines.proofs.Composing.{all_many, frames_still, others_replica, others_kept}
 use Rattle.line_runs.specs.Invariant.{node, PossibleLines, UpLines, HostLines, TiedTo}
+use Rattle.quorums.proofs.Each.{mapped, appended}
 
 pub same_num : (i j : ℕ) → (i == j) ≡ true → i ≡ j
 same_num i j e = grind (arith, nat_tests)

@@ -49,7 +49,7 @@ RefusesRead read fault = (read ≡ Err fault)
 pub record Replayed (config : Deployed) (ring : RingTable) (bytes : List ℕ) (out : Output) (events : List ScheduleEvent) : Type 0 where
   pub schedule : IsSchedule config bytes events
   pub built : unbuilt_at events ≡ None
-  pub rules : KeepsRules ring (trace ring events)
+  pub rules : KeepsRules config (trace ring events)
   pub text : Appends out.before out.after (lines_text (trace ring events))
   pub faults : out.faults_after ≡ out.faults_before
 
@@ -57,7 +57,7 @@ pub record Replayed (config : Deployed) (ring : RingTable) (bytes : List ℕ) (o
 pub record Stopped (config : Deployed) (ring : RingTable) (bytes : List ℕ) (out : Output) (events : List ScheduleEvent) (n : ℕ) : Type 0 where
   pub schedule : IsSchedule config bytes events
   pub built : unbuilt_at events ≡ None
-  pub rules : KeepsRules ring (trace ring events)
+  pub rules : KeepsRules config (trace ring events)
   pub front : Appends out.before out.after (take n (lines_text (trace ring events)))
 
 -- What a status says of the bytes of an input. Of want of memory nothing is said but what was written: nothing, or a

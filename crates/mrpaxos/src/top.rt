@@ -3,7 +3,8 @@
 ghost use Rattle.std.specs.Prelude.{◌≡◌, ◌↔◌, ◌<◌, IfSome, IsTrue, map, string_bytes};
 ghost use Rattle.mrpaxos.specs.declared.draw.Draw.{Draw as SomeDraw};
 ghost use Rattle.mrpaxos.specs.Drawing.{IsDraw, AnswersDraw};
-ghost use Rattle.world.specs.Ring.{IsRing};
+ghost use Rattle.mrp_config.specs.Valid.{IsValid};
+ghost use Rattle.world.specs.Built.{IsBuiltRing};
 ghost use Rattle.mrpaxos.specs.Top.{Ends, Replays, Configured, Entered, Judged, IsReplay, Answers, refused_of, unbuilt_fault};
 ghost use Rattle.mrpaxos.specs.declared.status.Status.TheVariants.{Input};
 ghost use Rattle.mrpaxos.specs.declared.status.InputFault.TheVariants.{Schedule as OfSchedule};
@@ -147,7 +148,8 @@ fn run_input<I: Source, O: Sink>(
     input: &mut I,
     out: &mut O,
 ) -> Status
-    requires { IsRing ring }
+    requires valid { IsValid deployment.now }
+    requires built { IsBuiltRing deployment.now ring }
     ensures { Entered result deployment.now ring
         (record {
           before = I.left input.old;
@@ -174,7 +176,8 @@ fn replay_bytes<O: Sink>(
     bytes: &[u8],
     out: &mut O,
 ) -> Status
-    requires { IsRing ring }
+    requires valid { IsValid deployment.now }
+    requires built { IsBuiltRing deployment.now ring }
     ensures { Judged result deployment.now ring bytes.now
         (record { before = O.taken out.old; after = O.taken out.new; faults_before = O.faults out.old; faults_after = O.faults out.new }) }
 {

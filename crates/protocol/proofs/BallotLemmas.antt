@@ -11,7 +11,7 @@ use Rattle.protocol.specs.Parts.{Ring, Part}
 use Rattle.protocol.specs.Rings.{position_of, acceptor_at, owner_of}
 use Rattle.protocol.specs.Ballots.{least_above, greatest_seen, own_ballot}
 use Rattle.protocol.specs.Meaning.{IsLeastAbove, HasOnePosition, IsLeastOwned}
-use Rattle.protocol.proofs.EntryLemmas.{eq-false}
+use Rattle.range_map.proofs.EntryLemmas.{eq-false}
 
 module _ (n rest : ℕ) (h : rest < n) where
   -- how far it is from a number that leaves r

@@ -10,18 +10,8 @@ use Rattle.protocol.specs.Parts.{Ring}
 use Rattle.protocol.specs.Rings.{majority_of}
 use Rattle.protocol.specs.Ballots.{reached_by, covered_to}
 use Rattle.protocol.specs.Meaning.{IsCovered}
-
-lt-true : (a b : ℕ) → a < b → nat_lt a b ≡ true
-lt-true a b h = grind (arith, nat_tests)
-
-lt-false : (a b : ℕ) → b ≤ a → nat_lt a b ≡ false
-lt-false a b h = grind (arith, nat_tests)
-
-lt-from : (a b : ℕ) → nat_lt a b ≡ true → a < b
-lt-from a b h = grind (arith, nat_tests)
-
-le-from : (a b : ℕ) → nat_le a b ≡ true → a ≤ b
-le-from a b h = grind (arith, nat_tests)
+use Rattle.range_map.proofs.EntryLemmas.{lt-true, lt-false, lt-from, le-from}
+use Rattle.quorums.proofs.Each.{mapped}
 
 -- x is one of these
 abbrev In : ℕ → List ℕ → Type 0
@@ -58,10 +48,6 @@ count_none p xs all = sym (length-filter p xs) ∙ none_pass p xs all
 every : (P : ℕ → Type 0) → ((x : ℕ) → P x) → (xs : List ℕ) → AllByRecursion P xs
 every P h [] = tt
 every P h (x ∷ xs) = (h x, every P h xs)
-
-mapped : (P Q : ℕ → Type 0) → ((x : ℕ) → P x → Q x) → (xs : List ℕ) → AllByRecursion P xs → AllByRecursion Q xs
-mapped P Q h [] all = tt
-mapped P Q h (x ∷ xs) all = (h x all.0, mapped P Q h xs all.1)
 
 -- ---- the least of these past an instance
 

@@ -7,32 +7,11 @@ use Rattle.std.proofs.lemmas.Map.Entries.{lookup-filter-keys}
 use Rattle.mrp_types.proofs.TestLemmas.{both}
 use Rattle.range_map.specs.Entries.{value_at, IsIncreasingFrom, entries_before, entries_from, IsNextGap}
 use Rattle.range_map.proofs.SetLemmas.{le-true, le-false}
-use Rattle.range_map.proofs.EntryLemmas.{increasing_weaker, none_below, value_at-entries_from, increasing_entries_from}
+use Rattle.range_map.proofs.EntryLemmas.{increasing_weaker, none_below, value_at-entries_from, increasing_entries_from, eq-true, eq-false, eq-from, lt-true, lt-false, value_here, value_later, increasing_before}
 use Rattle.protocol.specs.Learner.{entries_within, front_at, past_front, are_all_held, is_held, met_over, with_met, gap_after, first_gap}
 use Rattle.protocol.specs.Meaning.{Meets, AreHeld}
 
-eq-true : (a b : ℕ) → a ≡ b → nat_eq a b ≡ true
-eq-true a b h = grind (arith, nat_tests)
-
-pub eq-false : (a b : ℕ) → (a ≡ b → ⊥) → nat_eq a b ≡ false
-eq-false a b h = grind (arith, nat_tests)
-
-eq-from : (a b : ℕ) → nat_eq a b ≡ true → a ≡ b
-eq-from a b h = grind (arith, nat_tests)
-
-lt-true : (a b : ℕ) → a < b → nat_lt a b ≡ true
-lt-true a b h = grind (arith, nat_tests)
-
-lt-false : (a b : ℕ) → b ≤ a → nat_lt a b ≡ false
-lt-false a b h = grind (arith, nat_tests)
-
 module _ {T : Type 0} where
-  pub value_here : (e : ℕ × T) (es : List (ℕ × T)) (i : ℕ) → i ≡ e.0 → value_at i (e ∷ es) ≡ Some e.1
-  value_here e es i h = rw (eq-true i e.0 h) refl
-
-  pub value_later : (e : ℕ × T) (es : List (ℕ × T)) (i : ℕ) → (i ≡ e.0 → ⊥) → value_at i (e ∷ es) ≡ value_at i es
-  value_later e es i h = rw (eq-false i e.0 h) refl
-
   -- ---- cuts
 
   pub value_at-entries_before : (top : ℕ) (es : List (ℕ × T)) (i : ℕ) → value_at i (entries_before top es) ≡ (if nat_lt i top then value_at i es else None)
@@ -69,14 +48,6 @@ module _ {T : Type 0} where
       elim (cases_eq i x.0) [
         | inl same ↦ value_here x (xs ++ ys) i same ∙ sym (value_here x xs i same)
         | inr ne ↦ value_later x (xs ++ ys) i ne ∙ value_first xs ys i none ∙ sym (value_later x xs i ne)
-      ]
-
-  increasing_before : (k lo : ℕ) (es tail : List (ℕ × T)) → k ≤ lo → IsIncreasingFrom k es → IsIncreasingFrom lo tail → IsIncreasingFrom k (entries_before lo es ++ tail)
-  increasing_before k lo [] tail h p q = increasing_weaker k lo tail h q
-  increasing_before k lo (e ∷ es) tail h p q =
-      elim (cases_lt e.0 lo) [
-        | inl below ↦ rw (lt-true e.0 lo below) (p.0, increasing_before (suc e.0) lo es tail (omega arith) p.1 q)
-        | inr from ↦ let at = p.0 in rw (lt-false e.0 lo from) (increasing_before k lo es tail h (increasing_weaker k (suc e.0) es (omega arith) p.1) q)
       ]
 
   pub increasing_below : (k top : ℕ) (es : List (ℕ × T)) → IsIncreasingFrom k es → IsIncreasingFrom k (entries_before top es)

@@ -43,7 +43,7 @@ fresh_agrees : (o : Option Cast) (gap : Bool) → due_by o gap ≡ None → (val
 fresh_agrees None gap e value cast is = absurd (cc)
 fresh_agrees (Some held) gap e value cast is = absurd (cc)
 
-some_range : {x y : Decided} {m n : ℕ} → Offers x m ≡ Offers y n → x ≡ y
+pub some_range : {x y : Decided} {m n : ℕ} → Offers x m ≡ Offers y n → x ≡ y
 some_range e = cc
 
 module _ (ring : Ring) (campaign : Campaign) (held : List (ℕ × Value)) (p : IsIncreasingFrom 0 campaign.reports) (q : IsIncreasingFrom 0 held)

@@ -12,7 +12,7 @@ use Rattle.vote_state.specs.Ranges.{cast_of, voted, is_one, vote_before, ranges_
 use Rattle.vote_state.proofs.MaximalLemmas.{are_maximal}
 use Rattle.protocol.specs.Learner.{unballoted, decided_of, learned_ranges}
 use Rattle.protocol.specs.Meaning.{decided_at, AreInTurnFrom, IsUnjoined, AreUnjoined, AreSingle, AreMaximal}
-use Rattle.protocol.proofs.EntryLemmas.{value_here, value_later}
+use Rattle.range_map.proofs.EntryLemmas.{value_here, value_later}
 
 abbrev as_vote : ℕ × Value → ℕ × Cast
 as_vote e = (e.0, unballoted e.1)

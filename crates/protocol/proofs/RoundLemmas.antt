@@ -11,18 +11,10 @@ use Rattle.range_map.proofs.SetLemmas.{le-true}
 use Rattle.protocol.specs.Parts.{Ring, Round}
 use Rattle.protocol.specs.Trimming.{answered_of, have_quorums, least_of, above, least_where, is_answered, least}
 use Rattle.protocol.specs.Meaning.{HaveQuorums, IsGiven, IsLeastAnswer}
+use Rattle.range_map.proofs.EntryLemmas.{lt-true, lt-false, le-from}
 
 abbrev Answers : Type 0
 Answers = List (NodeId × ℕ)
-
-lt-true : (a b : ℕ) → a < b → nat_lt a b ≡ true
-lt-true a b h = grind (arith, nat_tests)
-
-lt-false : (a b : ℕ) → b ≤ a → nat_lt a b ≡ false
-lt-false a b h = grind (arith, nat_tests)
-
-le-from : (a b : ℕ) → nat_le a b ≡ true → a ≤ b
-le-from a b h = grind (arith, nat_tests)
 
 number_is : (a b : ℕ) → Some a ≡ Some b → a ≡ b
 number_is a b h = cc

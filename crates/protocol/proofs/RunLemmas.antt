@@ -8,20 +8,13 @@ use Rattle.mrp_types.specs.declared.value.Value.TheVariants.{Skip, Batch}
 use Rattle.mrp_types.specs.Values.{is_skip}
 use Rattle.range_map.specs.Entries.{value_at, IsIncreasingFrom}
 use Rattle.range_map.proofs.SetLemmas.{le-true, le-false}
-use Rattle.range_map.proofs.EntryLemmas.{none_below}
+use Rattle.range_map.proofs.EntryLemmas.{none_below, lt-true, lt-false, value_here, value_later}
 use Rattle.vote_state.specs.declared.cast.Cast.{Cast}
 use Rattle.protocol.specs.Parts.{Ring, Campaign}
 use Rattle.protocol.specs.Ballots.{covered_to, leads_now}
 use Rattle.protocol.specs.Proposing.{reported_to, due_by, first_where, is_batch, is_any, gaps_to, run_end}
 use Rattle.protocol.specs.Meaning.{IsDueSkip, IsLongestRun}
-use Rattle.protocol.proofs.EntryLemmas.{value_here, value_later}
 use Rattle.protocol.proofs.CoverLemmas.{covers}
-
-lt-true : (a b : ℕ) → a < b → nat_lt a b ≡ true
-lt-true a b h = grind (arith, nat_tests)
-
-lt-false : (a b : ℕ) → b ≤ a → nat_lt a b ≡ false
-lt-false a b h = grind (arith, nat_tests)
 
 -- ---- the first entry that passes a test
 

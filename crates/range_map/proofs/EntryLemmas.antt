@@ -10,26 +10,32 @@ use Rattle.range_map.specs.Runs.{entries_of, held, IsPlacedFrom, seen_at}
 use Rattle.range_map.proofs.RunsLemmas.{within-true, within-below, within-above}
 use Rattle.range_map.proofs.SetLemmas.{le-true, le-false}
 
-eq-true : (a b : ℕ) → a ≡ b → nat_eq a b ≡ true
+pub eq-true : (a b : ℕ) → a ≡ b → nat_eq a b ≡ true
 eq-true a b h = grind (arith, nat_tests)
 
-eq-false : (a b : ℕ) → (a ≡ b → ⊥) → nat_eq a b ≡ false
+pub eq-false : (a b : ℕ) → (a ≡ b → ⊥) → nat_eq a b ≡ false
 eq-false a b h = grind (arith, nat_tests)
 
-eq-from : (a b : ℕ) → nat_eq a b ≡ true → a ≡ b
+pub eq-from : (a b : ℕ) → nat_eq a b ≡ true → a ≡ b
 eq-from a b h = grind (arith, nat_tests)
 
-lt-true : (a b : ℕ) → a < b → nat_lt a b ≡ true
+pub lt-true : (a b : ℕ) → a < b → nat_lt a b ≡ true
 lt-true a b h = grind (arith, nat_tests)
 
-lt-false : (a b : ℕ) → b ≤ a → nat_lt a b ≡ false
+pub lt-from : (a b : ℕ) → nat_lt a b ≡ true → a < b
+lt-from a b h = grind (arith, nat_tests)
+
+pub le-from : (a b : ℕ) → nat_le a b ≡ true → a ≤ b
+le-from a b h = grind (arith, nat_tests)
+
+pub lt-false : (a b : ℕ) → b ≤ a → nat_lt a b ≡ false
 lt-false a b h = grind (arith, nat_tests)
 
 module _ {T : Type 0} where
-  value_here : (e : ℕ × T) (es : List (ℕ × T)) (i : ℕ) → i ≡ e.0 → value_at i (e ∷ es) ≡ Some e.1
+  pub value_here : (e : ℕ × T) (es : List (ℕ × T)) (i : ℕ) → i ≡ e.0 → value_at i (e ∷ es) ≡ Some e.1
   value_here e es i h = rw (eq-true i e.0 h) refl
 
-  value_later : (e : ℕ × T) (es : List (ℕ × T)) (i : ℕ) → (i ≡ e.0 → ⊥) → value_at i (e ∷ es) ≡ value_at i es
+  pub value_later : (e : ℕ × T) (es : List (ℕ × T)) (i : ℕ) → (i ≡ e.0 → ⊥) → value_at i (e ∷ es) ≡ value_at i es
   value_later e es i h = rw (eq-false i e.0 h) refl
 
   pair_eq : (x y : ℕ × T) → x.0 ≡ y.0 → Some x.1 ≡ Some y.1 → x ≡ y
@@ -171,7 +177,7 @@ module _ {T : Type 0} where
       first (inl a) b c = omega arith
       first (inr a) b c = omega arith
 
-  increasing_before : (k lo : ℕ) (es tail : List (ℕ × T)) → k ≤ lo → IsIncreasingFrom k es → IsIncreasingFrom lo tail → IsIncreasingFrom k (entries_before lo es ++ tail)
+  pub increasing_before : (k lo : ℕ) (es tail : List (ℕ × T)) → k ≤ lo → IsIncreasingFrom k es → IsIncreasingFrom lo tail → IsIncreasingFrom k (entries_before lo es ++ tail)
   increasing_before k lo [] tail h p q = increasing_weaker k lo tail h q
   increasing_before k lo (e ∷ es) tail h p q =
       elim (cases_lt e.0 lo) [

@@ -19,11 +19,12 @@ use Rattle.faithful.specs.Rules.{Begins, IsLater}
 use Rattle.recovery_lines.specs.Ties.{IsFit, IsAnswer, IsSaid, OwnLines, AnswerLines, AttemptLines, ChosenLines, DoneLines, ActLines, AfterLines, newest_of}
 use Rattle.faithful.proofs.Growing.{same_number}
 use Rattle.faithful.proofs.Ordering.{Reaches-refl}
-use Rattle.faithful.proofs.Quorum.{mapped, partition_there}
+use Rattle.faithful.proofs.Quorum.{partition_there}
 use Rattle.recovery_lines.proofs.More.{AllKnown-more, ReplicaLines-quiet}
 use Rattle.recovery_lines.proofs.Right.{right_lines}
 use Rattle.recovery_lines.proofs.Printing.{tells_own, differ, said_sends, all_flat, prints_done, sends_done, stage_done}
 use Rattle.recovery_lines.proofs.Choosing.{best_is, best_reaches, not_begun, choosing}
+use Rattle.quorums.proofs.Each.{mapped}
 
 module _ (c : Config) (fit : IsFit c) (before : List Line) (merged : (a : StepSoFar) (lines : List Line) → ActLines c before lines a → AfterLines c before (merges c a)) where
   -- as soon as a quorum has answered the best answer is chosen

@@ -30,14 +30,12 @@ use Rattle.faithful.specs.Rules.{AllKnown}
 use Rattle.recovery_lines.specs.Ties.{IsFit, IsAnswer, TellsSafe, TellsTuple, IsSaid, BodySaid, OwnLines, AnswerLines, ChoiceLines, ChosenLines, StageLines, ActLines, AfterLines, newest_of}
 use Rattle.faithful.proofs.Growing.{same_number, all_more}
 use Rattle.faithful.proofs.Ordering.{Reaches-trans, rings_fit, after_reaches}
-use Rattle.faithful.proofs.Quorum.{all_has, appended, mapped, different_more, is_some_reaches, partition_there, subscribed}
-use Rattle.recovery_lines.proofs.Printing.{other_tells, said_sends, said_others, sends_done, stage_done}
+use Rattle.faithful.proofs.Quorum.{all_has, different_more, is_some_reaches, partition_there, subscribed}
+use Rattle.recovery_lines.proofs.Printing.{other_tells, said_sends, said_others, sends_done, stage_done, same_num}
 use Rattle.recovery_lines.proofs.Choosing.{restored, choosing}
 use Rattle.recovery_lines.proofs.Beginning.{quorum_chooses, beginning}
 use Rattle.recovery_lines.proofs.Merging.{merged_all}
-
-same_num : (i j : ℕ) → (i == j) ≡ true → i ≡ j
-same_num i j t = grind (arith, nat_tests)
+use Rattle.quorums.proofs.Each.{mapped, appended}
 
 has_left : {T : Type 0} (xs ys : List T) (t : T) → Has xs t → Has (xs ++ ys) t
 has_left [] ys t h = absurd h

@@ -26,12 +26,13 @@ use Rattle.faithful.specs.Rules.{BySkips, Delivers}
 use Rattle.recovery_lines.specs.Ties.{IsRightLine, AreRight, KnownLines, IsFit, IsSaid, PartLines, OwnLines, ReadyLines, StageLines, ServiceLines, ReplicaLines, DoneLines, ActLines, AfterLines, newest_of, IsOf}
 use Rattle.faithful.proofs.Growing.{same_number, past_more}
 use Rattle.faithful.proofs.Ordering.{Reaches-trans, rings_fit, is_valid}
-use Rattle.faithful.proofs.Quorum.{appended, mapped, partition_there}
+use Rattle.faithful.proofs.Quorum.{partition_there}
 use Rattle.recovery_lines.proofs.More.{KnownLines-more, SameOwn, AllKnown-more, OwnLines-same, told_same, IsSaid-more, PartLines-more, ReplicaLines-quiet}
 use Rattle.recovery_lines.proofs.Printing.{differ, prints_done, stage_done}
 use Rattle.faithful.proofs.Between.{BySkips-refl}
 use Rattle.faithful.proofs.Moving.{past_tuple, past_reaches, past_later, past_known, past_skips, same_size}
 use Rattle.tuple_laws.proofs.NextPlaces.{at-next}
+use Rattle.quorums.proofs.Each.{mapped, appended}
 
 -- ---- what a learner holds is the book's
 

@@ -21,7 +21,8 @@ use Rattle.faithful.specs.Scanners.{touches, life, up_epoch, attempting, before_
 use Rattle.faithful.specs.Rules.{AllKnown, BySkips, AllHaveTold, HaveTold}
 use Rattle.recovery_lines.specs.Ties.{TellsKnown, KnownLines, IsAnswer, IsSafe, TellsSafe, TellsTuple, BodySaid, PartySaid, IsSaid, RoundLines, CurrentLines, PartLines, KeptLines, OwnLines, AnswerLines, AttemptLines, ChosenLines, StageLines, ServiceLines, ReplicaLines, newest_of, IsCovered, PartTold}
 use Rattle.faithful.proofs.Growing.{has_split, last_quiet, all_quiet, all_more, first_more, book_more, position_quiet}
-use Rattle.faithful.proofs.Quorum.{mapped, some_reaches_is, is_some_reaches, count_le}
+use Rattle.faithful.proofs.Quorum.{some_reaches_is, is_some_reaches, count_le}
+use Rattle.quorums.proofs.Each.{mapped}
 
 module _ (c : Config) (l : Line) (lines : List Line) where
   pub AllKnown-more : (tuple : List (RingId × ℕ)) → AllKnown lines tuple → AllKnown (l ∷ lines) tuple

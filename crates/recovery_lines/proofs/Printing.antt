@@ -20,8 +20,12 @@ use Rattle.faithful.specs.Rules.{AllKnown, IsFaithfulLine}
 use Rattle.recovery_lines.specs.Ties.{IsRightLine, TellsKnown, BodySaid, IsSaid, PartLines, DoneLines, IsOf, IsFit, TellsTuple}
 use Rattle.faithful.proofs.Growing.{past_more, same_number}
 use Rattle.faithful.proofs.Ordering.{rings_fit, paired_same}
-use Rattle.faithful.proofs.Quorum.{appended, mapped, partition_there}
+use Rattle.faithful.proofs.Quorum.{partition_there}
 use Rattle.recovery_lines.proofs.More.{IsSaid-more, PartLines-more, KnownLines-more}
+use Rattle.quorums.proofs.Each.{mapped, appended}
+
+pub same_num : (i j : ℕ) → (i == j) ≡ true → i ≡ j
+same_num i j t = grind (arith, nat_tests)
 
 pub differ : (a b : ℕ) → (a ≡ b → ⊥) → (a == b) ≡ false
 differ a b ne = grind (arith, nat_tests)
@@ -64,9 +68,6 @@ tells_own c lines x r p q own k e rx rr vo vk (inl same) known =
     ∙ ap (λ (s : PartitionTable). paired s.rings (instances own)) (sym one) ∙ paired_same p.rings own (rings_fit (round_sizes c) p.rings own vo) in
     subst (λ (t : List (RingId × ℕ)). AllKnown lines t) (sym back) known
   where
-    same_num : (i j : ℕ) → (i == j) ≡ true → i ≡ j
-    same_num i j t = grind (arith, nat_tests)
-
     some_same : (u v : PartitionTable) → Some u ≡ Some v → u ≡ v
     some_same u v t = cc
 

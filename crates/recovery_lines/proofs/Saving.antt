@@ -20,9 +20,9 @@ use Rattle.faithful.specs.Rules.{BySkips, Saves}
 use Rattle.recovery_lines.specs.Ties.{IsFit, PartLines, KeptLines, OwnLines, ReadyLines, StageLines, ServiceLines, ReplicaLines, StepLines, ViewLines}
 use Rattle.faithful.proofs.Growing.{same_number}
 use Rattle.faithful.proofs.Ordering.{Reaches-refl, Reaches-trans}
-use Rattle.faithful.proofs.Quorum.{mapped}
 use Rattle.recovery_lines.proofs.More.{KnownLines-more, PartLines-more, AllKnown-more, BySkips-more}
 use Rattle.recovery_lines.proofs.Printing.{differ, tells_own}
+use Rattle.quorums.proofs.Each.{mapped}
 
 -- the state that a save would leave, before its line is printed: what a disk may stand for where the step is stopped
 pub kept_saved : (c : Config) (lines : List Line) (x : NodeId) (epoch : ℕ) (p : PartitionTable) (newest : Option Checkpoint) (attempts : ℕ) (standing : Standing) (state : List ℕ)

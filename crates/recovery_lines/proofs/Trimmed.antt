@@ -17,7 +17,8 @@ use Rattle.faithful.specs.Rules.{IsReached, HaveTold, AllHaveTold, IsFaithfulLin
 use Rattle.faithful.specs.Answers.{Both}
 use Rattle.recovery_lines.specs.Ties.{IsFit, ReachesCovered, IsAnswer, AnswerLines, AttemptLines}
 use Rattle.faithful.proofs.Growing.{all_more}
-use Rattle.faithful.proofs.Quorum.{all_has, mapped, share, all_count, different_count, AnswerOf, answer_of, all_answered, entry_reaches, some_reaches_is, subscribed}
+use Rattle.faithful.proofs.Quorum.{all_has, share, all_count, different_count, AnswerOf, answer_of, all_answered, entry_reaches, some_reaches_is, subscribed}
+use Rattle.quorums.proofs.Each.{mapped}
 
 have_told : (before : List Line) (ring : RingId) (inst : ℕ) (ps : List PartitionTable) (p : PartitionTable) → AllHaveTold before ring inst ps → Has ps p → HaveTold before ring inst p
 have_told before ring inst [] p all h = absurd h

@@ -19,7 +19,7 @@ use Rattle.vote_state.specs.declared.change.Change.{Change}
 use Rattle.vote_state.specs.declared.change.Change.TheVariants.{Epoch, Promise, Vote, Trim}
 use Rattle.vote_state.specs.Ranges.{cast_of, are_held}
 use Rattle.vote_state.specs.State.{State, ring_at, no_votes, with_promise, with_vote, with_trim, with_ring, taken}
-use Rattle.vote_state.proofs.HeldLemmas.{held_meaning, held_empty}
+use Rattle.vote_state.proofs.HeldLemmas.{held_meaning}
 use Rattle.ring_safety.specs.Faces.{Face}
 use Rattle.ring_safety.specs.Deeds.{Promises, Trims, done}
 use Rattle.ring_reach.specs.Reach.{HasVoted}
@@ -87,13 +87,6 @@ module _ (f g : Face Value) (kept : RingState) (v : Voted) (k : KeptTies f kept)
     ordered = k.ordered;
     ended = k.ended;
   }
-
--- a range that isn't held isn't empty
-pub not_held_not_empty : (v : Voted) (kept : RingState) → are_held v kept.votes ≡ false → v.lo < v.hi
-not_held_not_empty v kept h = elim (cases_lt v.lo v.hi) [
-  | inl lt ↦ lt
-  | inr empty ↦ let held = held_empty v kept.votes empty in absurd (cc)
-]
 
 -- ---- trims
 

@@ -33,7 +33,7 @@ use Rattle.beside_rings.specs.Beside.{IsNoLearn}
 use Rattle.ring_safety.specs.Faces.{Face}
 use Rattle.ring_kept.specs.Kept.{kept_by, kept_after}
 use Rattle.ring_tables.specs.Ties.{SaidBy, IsSaid, IsTold, IsRecorded}
-use Rattle.ring_tables.proofs.More.{mapped, appended}
+use Rattle.quorums.proofs.Each.{mapped, appended}
 
 -- ---- what another ring sees of it
 

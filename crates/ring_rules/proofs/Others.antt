@@ -40,11 +40,11 @@ use Rattle.ring_safety.proofs.Local.{Grows-refl, Grows-trans}
 use Rattle.ring_kept.proofs.Keeping.{cut_above, cut_below}
 use Rattle.ring_kept.proofs.Masks.{own_bit}
 use Rattle.ring_tables.specs.Ties.{acceptors, IsChosen, IsRangeChosen, IsOutstanding, RoleTies, CampaignTies, PartTies, AcceptSaid, IsSaid}
-use Rattle.ring_tables.proofs.More.{appended}
 use Rattle.ring_tables.specs.Done.{EffectsTie, After}
 use Rattle.ring_tables.proofs.Effects.{said_sends, effects_none, effects_frames, effects_learned}
 use Rattle.ring_tables.proofs.Offering.{proposes_after_ties}
 use Rattle.ring_rules.proofs.Coordinating.{effects_trims}
+use Rattle.quorums.proofs.Each.{appended, front_all}
 
 -- ---- learned ranges
 
@@ -70,10 +70,6 @@ each_tells k (range ∷ ranges) P turn h = (
       | inl under ↦ let none = decided_before range.hi ranges i turn.2 under in absurd (cc)
       | inr past ↦ let e : (nat_le range.lo i && nat_lt i range.hi) ≡ false = grind (arith, nat_tests) in rw e tells
     ]
-
-pub front_all : {T : Type 0} (P : T → Type 0) (front rest : List T) → AllByRecursion P (front ++ rest) → AllByRecursion P front
-front_all P [] rest all = tt
-front_all P (x ∷ front) rest all = (all.0, front_all P front rest all.1)
 
 -- what a learner holds from an instance on is chosen, as it is told in a page
 pub page_chosen : (n : ℕ) (now : ℕ → Face Value) (lo : ℕ) (held : List (ℕ × Value)) → IsIncreasingFrom 0 held → ((i : ℕ) (value : Value) → value_at i held ≡ Some value → IsChosen n now i value)

@@ -26,10 +26,10 @@ use Rattle.protocol.specs.Proposing.{proposes_after, proposes, offers, has_room,
 use Rattle.protocol.specs.Coordinator.{starts_at, leads, promised, refused, passes_on, is_pending, with_pending, most_pending, submits_leading, submits_in, submits}
 use Rattle.protocol.specs.Leading.{is_to_start, starts_idle, starts_on_tick, prepares_again, accepts_again, resends_in, resends, with_tick_taken, shortfall_from, levels_by, levels_in, levels}
 use Rattle.protocol.specs.Trimming.{trimmed, least, with_answer, in_round, trims_all, trims_above, ends_by, goes_on_round, with_own_answer, next_round, with_asked, asks, asks_round, answers_in, answers}
-use Rattle.ring_tables.proofs.More.{appended}
 use Rattle.beside_rings.specs.Beside.{IsNoLearn}
 use Rattle.ring_rules.specs.Own.{IsSentOf, IsBodyOf, IsOf}
 use Rattle.ring_rules.proofs.Apart.{of_sends, of_none, of_frames, of_change, of_promises, of_offers, of_proposes_after}
+use Rattle.quorums.proofs.Each.{appended}
 
 of_sends_each : (ring : Ring) (nodes : List NodeId) (b : Body) → IsBodyOf ring.id b → AllByRecursion (IsSentOf ring.id) (sends_each ring nodes b)
 of_sends_each ring [] b is = tt

@@ -37,10 +37,11 @@ use Rattle.ring_safety.proofs.Local.{Grows-refl, Grows-trans}
 use Rattle.ring_safety.proofs.Deeds.{Grows-done}
 use Rattle.ring_kept.specs.Kept.{told_of, KeptTies}
 use Rattle.ring_tables.specs.Ties.{acceptors, Reports, CampaignTies, PartTies, BodySaid, IsSaid}
-use Rattle.ring_tables.proofs.More.{appended, told_on}
+use Rattle.ring_tables.proofs.More.{told_on}
 use Rattle.ring_tables.specs.Done.{DoneTies, EffectsTie, After}
 use Rattle.ring_tables.proofs.Effects.{same_number, said_sends, effects_none, effects_frames, done_changed}
 use Rattle.ring_tables.proofs.Offering.{proposes_after_ties}
+use Rattle.quorums.proofs.Each.{appended}
 
 pub said_sends_each : (ring : Ring) (now : ℕ → Face Value) (nodes : List NodeId) (b : Body) → BodySaid ring now ring.own b → AllByRecursion (IsSaid ring now) (sends_each ring nodes b)
 said_sends_each ring now [] b s = tt

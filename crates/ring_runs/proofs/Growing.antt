@@ -27,11 +27,12 @@ use Rattle.protocol.specs.Parts.{Ring, Part}
 use Rattle.protocol.specs.Rings.{ring_of}
 use Rattle.ring_steps.specs.Stands.{ViewStands}
 use Rattle.ring_tables.specs.Ties.{PartTies, IsSaid, IsTold, IsToldIn}
-use Rattle.ring_tables.proofs.More.{appended, RoleTies-more, LearnerTies-more}
+use Rattle.ring_tables.proofs.More.{RoleTies-more, LearnerTies-more}
 use Rattle.bare_world.specs.Worlds.{Host, Up, Down, with_frames, with_lines, with_work, with_read}
 use Rattle.ring_runs.specs.Seats.{nobody, seat, acceptors}
 use Rattle.ring_runs.specs.Histories.{History}
 use Rattle.ring_runs.specs.Standing.{IsDoneBy, DownStands, HostStands, IsReadIn, ReadStands, WorldStands, Later}
+use Rattle.quorums.proofs.Each.{appended}
 
 -- ---- what stays as faces of others grow
 

@@ -43,7 +43,7 @@ use Rattle.beside_rings.specs.Beside.{changes_in}
 use Rattle.ring_steps.specs.Stands.{ViewStands, EventSaid, StepStands}
 use Rattle.ring_tables.specs.Ties.{SaidBy, IsSaid, IsTold, IsRecorded, IsVotedIn, AreRecorded, IsToldIn}
 use Rattle.ring_steps.proofs.Ending.{step_stands}
-use Rattle.ring_tables.proofs.More.{appended, mapped, all_said_more, all_told_more, all_recorded_more, none_recorded}
+use Rattle.ring_tables.proofs.More.{all_said_more, all_told_more, all_recorded_more, none_recorded}
 use Rattle.ring_steps.proofs.Opened.{opened_stands}
 use Rattle.bare_world.specs.Runs.{MayCome, MayOpenAt, MayLeaveAt, MayHappen, MayRun}
 use Rattle.bare_world.specs.Worlds.{Possible, Host, Up, Down, World, Happening, Steps, Breaks, Crashes, Opens, Fails, Asks, ClientTicks, ClientTakes, Shows, Lists, with_host, with_client, with_frames, with_lines, with_work, with_read, possible_of, chosen, after_step, goes_down, stepped, client_step, state_of_host, nothing}
@@ -55,6 +55,7 @@ use Rattle.ring_runs.proofs.Clients.{IsQuiet, asks_quiet, ticks_quiet, takes_qui
 use Rattle.ring_runs.proofs.Stopping.{stopped_there, stopped_elsewhere, still_recorded, same_node}
 use Rattle.ring_runs.proofs.Growing.{view_more, host_elsewhere, own_view, IsReadIn-more, read_in, later_none, later_one, later_both, later_grows, more_frames, more_lines, more_work, more_read, one_of, has_first, has_last, done_more, told_more, has_second}
 use Rattle.ring_runs.proofs.Static.{same_id, seats_of, seats_differ, said_by, all_said, all_told}
+use Rattle.quorums.proofs.Each.{mapped, appended}
 
 pub since : (config : Config) (table : RingTable) (from mid : machine.World Value) (h : History) → Later (acceptors table) from mid → Tied config table mid h → Tied config table from h
 since config table from mid h l t = record { machine_world = t.machine_world; later = later_both (acceptors table) from mid t.machine_world l t.later; sound = t.sound; stands = t.stands }

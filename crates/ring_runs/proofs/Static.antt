@@ -20,9 +20,9 @@ use Rattle.ring_safety.specs.Faces.{Face}
 use Rattle.protocol.specs.Rings.{ring_of, is_acceptor}
 use Rattle.ring_tables.specs.Ties.{BodySaid, SaidBy, IsSaid, IsTold}
 use Rattle.protocol.specs.Lines.{Line, Learn}
-use Rattle.ring_tables.proofs.More.{mapped}
 use Rattle.ring_tables.specs.Done.{Seats}
 use Rattle.ring_runs.specs.Seats.{nobody, acceptor_at, acceptors, position_or, seat, IsDeployed}
+use Rattle.quorums.proofs.Each.{mapped}
 
 pub same_id : (a b : NodeId) → a.0 ≡ b.0 → a ≡ b
 same_id a b e = ap (λ (n : ℕ). let made : NodeId = record { 0 = n } in made) e

@@ -40,12 +40,13 @@ use Rattle.ring_safety.specs.Rules.{Grows}
 use Rattle.ring_safety.proofs.Local.{Grows-refl, Grows-trans}
 use Rattle.ring_kept.specs.Kept.{KeptTies, kept_after, kept_by}
 use Rattle.ring_tables.specs.Ties.{acceptors, IsRangeChosen, RoleTies, PartTies, IsSaid, IsTold}
-use Rattle.ring_tables.proofs.More.{mapped, appended, IsRangeChosen-more, all_said_more, all_told_more, recorded_both, told_first, told_through, told_both}
+use Rattle.ring_tables.proofs.More.{IsRangeChosen-more, all_said_more, all_told_more, recorded_both, told_first, told_through, told_both}
 use Rattle.beside_rings.specs.Beside.{IsNoLearn}
 use Rattle.ring_rules.proofs.Apart.{none_learned, of_none, of_proposes_after}
 use Rattle.ring_tables.specs.Done.{EffectsTie, After}
 use Rattle.ring_rules.proofs.Coordinating.{learns_ties}
 use Rattle.ring_tables.specs.Settled.{RoleSettled, PartFine}
+use Rattle.quorums.proofs.Each.{mapped, appended}
 
 -- ---- what a ring doesn't see
 

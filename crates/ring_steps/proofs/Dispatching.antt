@@ -40,7 +40,7 @@ use Rattle.ring_safety.specs.Faces.{Face}
 use Rattle.ring_safety.specs.Invariant.{Local}
 use Rattle.ring_safety.proofs.Local.{Grows-refl, Grows-trans}
 use Rattle.ring_tables.specs.Ties.{acceptors, IsRangeChosen, PartTies, BodySaid, SaidBy}
-use Rattle.ring_tables.proofs.More.{mapped, IsRangeChosen-more}
+use Rattle.ring_tables.proofs.More.{IsRangeChosen-more}
 use Rattle.ring_tables.proofs.Effects.{effects_none}
 use Rattle.ring_tables.proofs.Offering.{proposes_after_ties}
 use Rattle.ring_tables.specs.Settled.{RoleSettled, PartFine}
@@ -53,6 +53,7 @@ use Rattle.ring_rules.specs.Ruled.{Ruled}
 use Rattle.ring_steps.proofs.Elsewhere.{applies_effects_leaves}
 use Rattle.ring_tables.specs.Done.{Seats}
 use Rattle.ring_rules.proofs.Ruling.{ruled_prepares, ruled_accepts, ruled_fetches, ruled_refused, ruled_resends, ruled_levels, ruled_trimmed, ruled_promised, ruled_leads, ruled_starts, ruled_submits, ruled_answers, ruled_asks_round, ruled_decided, ruled_chosen}
+use Rattle.quorums.proofs.Each.{mapped}
 
 same_ring : (r s : RingId) → r.0 ≡ s.0 → s ≡ r
 same_ring r s e = ap (λ (n : ℕ). let made : RingId = record { 0 = n } in made) (sym e)

@@ -18,9 +18,10 @@ use Rattle.beside_rings.proofs.Following.{SameBut-refl}
 use Rattle.beside_rings.proofs.Merge.{merges_untouched}
 use Rattle.ring_kept.specs.Kept.{kept_after}
 use Rattle.ring_tables.specs.Ties.{IsSaid, IsTold}
-use Rattle.ring_tables.proofs.More.{appended, recorded_apart, told_first}
+use Rattle.ring_tables.proofs.More.{recorded_apart, told_first}
 use Rattle.ring_rules.specs.Own.{IsOf}
 use Rattle.ring_rules.proofs.Apart.{changes_apart, frames_apart, records_apart, none_learned, of_none, of_proposes_after}
+use Rattle.quorums.proofs.Each.{appended}
 
 pub put_apart : (id other : RingId) → (other.0 ≡ id.0 → ⊥) → (new : Part) (parts : List RingPart) → part_in (with_part_in other new parts) id ≡ part_in parts id
 put_apart id other ne new [] = refl

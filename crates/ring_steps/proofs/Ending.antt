@@ -35,11 +35,12 @@ use Rattle.ring_tables.specs.Ties.{acceptors, IsSaid, IsTold, LearnerTies, AreRe
 use Rattle.beside_rings.specs.Beside.{changes_in}
 use Rattle.ring_steps.specs.Stands.{ViewStands, EventSaid, StepStands}
 use Rattle.ring_tables.specs.Settled.{PartFine}
-use Rattle.ring_tables.proofs.More.{appended, none_recorded, told_more}
+use Rattle.ring_tables.proofs.More.{none_recorded, told_more}
 use Rattle.ring_steps.proofs.Along.{MemberTies, OnWay, WayAfter}
 use Rattle.ring_tables.specs.Done.{Seats}
 use Rattle.ring_steps.proofs.Dispatching.{from_goes, lead_goes, beats_go}
 use Rattle.ring_kept.proofs.Keeping.{cut_above, cut_below, ring_taken}
+use Rattle.quorums.proofs.Each.{appended}
 
 -- ---- learners begin anew
 

@@ -11,7 +11,7 @@ use Rattle.mrp_types.specs.declared.voted.Voted.{Voted}
 use Rattle.mrp_types.specs.declared.voted.Decided.{Decided}
 use Rattle.quorums.specs.Groups.{Has}
 use Rattle.ring_safety.specs.Invariant.{Local}
-use Rattle.vote_state.proofs.HeldLemmas.{held_meaning}
+use Rattle.vote_state.proofs.HeldLemmas.{held_meaning, not_held_not_empty}
 use Rattle.vote_state.specs.declared.cast.Cast.{Cast}
 use Rattle.vote_state.specs.declared.ring.RingState.{RingState}
 use Rattle.vote_state.specs.declared.change.Change.{Change}
@@ -33,9 +33,10 @@ use Rattle.ring_safety.specs.Rules.{Grows}
 use Rattle.ring_safety.proofs.Local.{Grows-refl}
 use Rattle.ring_safety.proofs.Deeds.{Grows-done}
 use Rattle.ring_kept.specs.Kept.{KeptTies, kept_by, told_of}
-use Rattle.ring_kept.proofs.Keeping.{kept_promised, kept_voted, kept_held, not_held_not_empty, kept_after_more}
+use Rattle.ring_kept.proofs.Keeping.{kept_promised, kept_voted, kept_held, kept_after_more}
 use Rattle.ring_tables.specs.Ties.{acceptors, IsRangeChosen, RoleTies, LearnerTies, PartTies, BodySaid, IsSaid, IsVotedIn, AreRecorded, AreTold}
-use Rattle.ring_tables.proofs.More.{mapped, appended, IsRangeChosen-more, LearnerTies-more, all_said_more, none_recorded, recorded_on, recorded_both, told_more, told_on}
+use Rattle.ring_tables.proofs.More.{IsRangeChosen-more, LearnerTies-more, all_said_more, none_recorded, recorded_on, recorded_both, told_more, told_on}
+use Rattle.quorums.proofs.Each.{mapped, appended}
 
 pub same_number : (x : ℕ) → nat_eq x x ≡ true
 same_number x = grind (arith, nat_tests)
@@ -236,7 +237,7 @@ module _ (ring : Ring) (faces : ℕ → Face Value) (a : ℕ) (start : Face Valu
 
         go : (b : Bool) → are_held vote effects.part.kept.votes ≡ b → DoneTies ring faces a start kept g (if b then effects else votes_for ring vote effects)
         go true e = done_on f g effects reach voted.grows t (λ c h. again e c (voted.new c h)) (kept_held f g effects.part.kept vote t.kept voted e)
-        go false e = done_votes (not_held_not_empty vote effects.part.kept e)
+        go false e = done_votes (not_held_not_empty vote effects.part.kept.votes e)
 
   -- votes make no promise
   pub told_votes : (f g : Face Value) (frames : List Sent) → g.promises ≡ f.promises → AreTold ring a start f frames → AreTold ring a start g frames

@@ -23,14 +23,7 @@ use Rattle.ring_safety.specs.Faces.{Promise, Proposal, Face, owner}
 use Rattle.ring_safety.specs.Worlds.{Chosen}
 use Rattle.ring_safety.specs.Rules.{Grows}
 use Rattle.ring_tables.specs.Ties.{acceptors, IsChosen, IsRangeChosen, Reports, IsOutstanding, CampaignTies, RoleTies, LearnerTies, PromiseSaid, AcceptSaid, BodySaid, SaidBy, IsSaid, IsTold, IsRecorded, IsVotedIn, AreRecorded, IsToldIn, AreTold}
-
-pub mapped : {T : Type 0} (P Q : T → Type 0) → ((x : T) → P x → Q x) → (xs : List T) → AllByRecursion P xs → AllByRecursion Q xs
-mapped P Q h [] all = tt
-mapped P Q h (x ∷ xs) all = (h x all.0, mapped P Q h xs all.1)
-
-pub appended : {T : Type 0} (P : T → Type 0) (xs ys : List T) → AllByRecursion P xs → AllByRecursion P ys → AllByRecursion P (xs ++ ys)
-appended P [] ys a b = b
-appended P (x ∷ xs) ys a b = (a.0, appended P xs ys a.1 b)
+use Rattle.quorums.proofs.Each.{mapped, appended}
 
 pub IsOutstanding-more : (f g : Face Value) (ballot : ℕ) (range : Decided) → Grows f g → IsOutstanding f ballot f.trim range → IsOutstanding g ballot g.trim range
 IsOutstanding-more f g ballot range grows o =

@@ -32,12 +32,13 @@ use Rattle.ring_safety.proofs.Local.{Grows-refl, Grows-trans}
 use Rattle.ring_kept.specs.Kept.{KeptTies}
 use Rattle.ring_kept.proofs.Masks.{own_bit}
 use Rattle.ring_tables.specs.Ties.{acceptors, RoleTies, CampaignTies, IsOutstanding, AcceptSaid}
-use Rattle.ring_tables.proofs.More.{mapped, appended, IsOutstanding-more, Reports-more}
+use Rattle.ring_tables.proofs.More.{IsOutstanding-more, Reports-more}
 use Rattle.ring_tables.specs.Done.{DoneTies, EffectsTie, After}
 use Rattle.ring_tables.proofs.Effects.{done_votes}
 use Rattle.ring_tables.proofs.Acceptor.{effects_decides_or_forwards}
 use Rattle.ring_tables.proofs.Effects.{told_votes}
 use Rattle.ring_tables.proofs.Backing.{backing, covered_ended}
+use Rattle.quorums.proofs.Each.{mapped, appended}
 
 -- ---- an offer
 

@@ -23,7 +23,7 @@ use Rattle.protocol.specs.Acceptor.{votes_for, decides, decides_or_forwards}
 use Rattle.protocol.specs.Ballots.{covered_to, leads_now}
 use Rattle.protocol.specs.Proposing.{reported_to, due_by, due_at, Choice, Rests, Offers, choice_of, has_room, choice, advanced, own_mask, after_offer, vote_of, offers, Turn, Stops, Proposes, turn_by, turn_in, turn_of, proposing, proposes_after}
 use Rattle.protocol.specs.Leading.{with_tick_taken, shortfall_from, levels_by, levels_in, levels}
-use Rattle.protocol.proofs.EntryLemmas.{gap, value_later}
+use Rattle.protocol.proofs.EntryLemmas.{gap}
 use Rattle.protocol.proofs.OfferLemmas.{some_missing}
 use Rattle.ring_safety.specs.Faces.{Face}
 use Rattle.ring_safety.specs.Invariant.{Local}
@@ -34,6 +34,7 @@ use Rattle.ring_tables.specs.Done.{EffectsTie, After}
 use Rattle.ring_tables.proofs.Effects.{effects_none}
 use Rattle.ring_tables.proofs.Backing.{covered_ended}
 use Rattle.ring_tables.proofs.Offering.{MayOffer, TurnTies, effects_offers, turn_ties, proposes_after_ties}
+use Rattle.range_map.proofs.EntryLemmas.{value_later}
 
 abbrev pub EffectsSettled : Ring → Effects → Type 0
 EffectsSettled ring effects = RoleSettled ring effects.part.kept.trim effects.part.coordinator.role

@@ -31,15 +31,12 @@ use Rattle.step_lines.specs.Effects.{IsPlain, EffectsTold, AllTold, Onward}
 use Rattle.step_lines.proofs.Onward.{put_rings}
 use Rattle.recovery_lines.specs.Ties.{IsFit, IsRightLine, AreRight, IsSaid, PartLines, CurrentLines, KnownLines, KeptLines, ReplicaLines, ActLines, AfterLines, StepLines, IsOf, AreCovered, IsCovered, PartTold}
 use Rattle.faithful.proofs.Growing.{past_more, book_more}
-use Rattle.faithful.proofs.Quorum.{appended, mapped}
 use Rattle.recovery_lines.proofs.More.{IsSaid-more, PartLines-more, KnownLines-more, ReplicaLines-quiet, KeptLines-same, quiet_own, AllHaveTold-more}
 use Rattle.recovery_lines.proofs.Merging.{merged_all}
+use Rattle.vote_state.proofs.StateLemmas.{taken-append}
+use Rattle.quorums.proofs.Each.{mapped, appended}
 
 -- ---- changes
-
-taken_more : (xs ys : List Change) (s : State) → taken (xs ++ ys) s ≡ taken ys (taken xs s)
-taken_more [] ys s = refl
-taken_more (x ∷ xs) ys s = taken_more xs ys (changed x s)
 
 recorded_epoch : (j : Journal) (cs : List Change) → (recorded j cs).state.epoch ≡ (taken cs j.state).epoch
 recorded_epoch j [] = refl
@@ -130,8 +127,8 @@ effects_onward c lines ring effects a told = record {
   checkpoints = refl;
   told = λ t. let d : EffectsTold c lines ring.id effects = told t in record {
     parts = told_put c lines ring.id effects.part d.round d.trim a.view.parts t.parts;
-    trims = subst (λ (s : State). AreCovered c lines s) (sym (taken_more a.changes effects.changes a.view.journal.state)) (d.changes (taken a.changes a.view.journal.state) t.trims);
-    epoch = ap (λ (s : State). s.epoch) (taken_more a.changes effects.changes a.view.journal.state) ∙ d.epoch (taken a.changes a.view.journal.state) ∙ t.epoch;
+    trims = subst (λ (s : State). AreCovered c lines s) (sym (taken-append a.changes effects.changes a.view.journal.state)) (d.changes (taken a.changes a.view.journal.state) t.trims);
+    epoch = ap (λ (s : State). s.epoch) (taken-append a.changes effects.changes a.view.journal.state) ∙ d.epoch (taken a.changes a.view.journal.state) ∙ t.epoch;
   };
 }
 

@@ -17,6 +17,7 @@ use Rattle.protocol.specs.Lines.{Line}
 use Rattle.protocol.specs.Node.{StepSoFar, View, RingPart, part_in, part_at}
 use Rattle.recovery_lines.specs.Ties.{IsFit, ActLines, AfterLines, rings_in}
 use Rattle.step_lines.specs.Effects.{EffectsTold, Stays, Onward, Goes}
+use Rattle.recovery_lines.proofs.Printing.{same_num}
 
 module _ (c : Config) (before : List Line) where
   pub Goes-refl : (a : StepSoFar) → Goes c before a a
@@ -39,9 +40,6 @@ module _ (c : Config) (before : List Line) where
   goes_so a b on after = record { onward = on; right = λ lines ties told all. after lines ties }
 
 -- ---- the part of a ring
-
-same_num : (i j : ℕ) → (i == j) ≡ true → i ≡ j
-same_num i j t = grind (arith, nat_tests)
 
 -- it is a part of that ring
 pub part_ring : (parts : List RingPart) (ring : RingId) (p : RingPart) → part_in parts ring ≡ Some p → p.ring.id ≡ ring

@@ -1,7 +1,6 @@
 -- The rules of a ring: each leaves the learner, and what was told.
 use Rattle.recovery_lines.proofs.Hearing.{by_test}
 use Rattle.skip_leveller.specs.Levelling.{answer_of}
-use Rattle.faithful.proofs.Quorum.{appended}
 use Rattle.range_map.specs.Entries.{entries_from}
 use Rattle.mrp_types.specs.declared.value.Entry.{Entry}
 use Rattle.std.proofs.Common.{ℕ, zero, suc, Bool, true, false, List, [], ◌∷◌, Option, Some, None, refl, slice_index}
@@ -30,6 +29,7 @@ use Rattle.protocol.specs.Trimming.{trimmed}
 use Rattle.recovery_lines.specs.Ties.{IsSaid, IsCovered}
 use Rattle.step_lines.specs.Effects.{Stays}
 use Rattle.step_lines.proofs.Words.{ring_sends, ring_sends_each, Stays-refl, Stays-trans, stays_frames, stays_line, stays_learned, stays_coordinator, stays_votes_anew, stays_promises, stays_promises_anew, stays_trims, stays_decides_or_forwards, stays_offers, proposes_stays}
+use Rattle.quorums.proofs.Each.{appended}
 
 module _ (c : Config) (lines : List Line) (ring : Ring) where
   abbrev Kept : Part → Effects → Type 0

@@ -22,9 +22,10 @@ use Rattle.protocol.specs.Trimming.{has_answered, answered_of, have_quorums, lea
 use Rattle.faithful.specs.Scanners.{told, some_reaches}
 use Rattle.faithful.specs.Rules.{HaveTold, AllHaveTold}
 use Rattle.recovery_lines.specs.Ties.{IsFit, IsPlaced, IsSafe, TellsSafe, RoundLines, CurrentLines}
-use Rattle.faithful.proofs.Quorum.{appended, different_count, different_more, some_reaches_is, is_some_reaches}
+use Rattle.faithful.proofs.Quorum.{different_count, different_more, some_reaches_is, is_some_reaches}
 use Rattle.recovery_lines.proofs.Hearing.{by_test, in_partitions}
 use Rattle.step_lines.proofs.Words.{ring_sends_each, Stays-refl, Stays-trans, stays_frames, stays_line, stays_rounds, stays_trims, proposes_stays}
+use Rattle.quorums.proofs.Each.{appended}
 
 -- a node is a replica of one partition
 pub told_safe : (c : Config) → IsFit c → (lines : List Line) (ring : RingId) (answer : NodeId × ℕ) → TellsSafe c lines ring answer → IsSafe c lines ring answer

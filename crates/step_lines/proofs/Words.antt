@@ -28,8 +28,8 @@ use Rattle.protocol.specs.Acceptor.{votes_for, promises_anew, votes_anew, trims_
 use Rattle.protocol.specs.Learner.{without_finished, decided_of}
 use Rattle.protocol.specs.Proposing.{Choice, Rests, Offers, choice, offers, own_mask, vote_of, after_offer, Turn, Stops, Proposes, turn_by, turn_in, turn_of, advanced, proposing, proposes_after}
 use Rattle.recovery_lines.specs.Ties.{IsSaid, BodySaid, CurrentLines, IsCovered, AreCovered}
-use Rattle.faithful.proofs.Quorum.{appended}
 use Rattle.recovery_lines.proofs.Hearing.{by_test}
+use Rattle.quorums.proofs.Each.{appended}
 
 set_at : (xs : List RingState) (i j : ℕ) (r none : RingState) → (slice_index_or (slice_set xs i r) j none ≡ slice_index_or xs j none) ⊎ ((i ≡ j) × (slice_index_or (slice_set xs i r) j none ≡ r))
 set_at [] i j r none = inl refl

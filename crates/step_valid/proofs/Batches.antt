@@ -20,6 +20,7 @@ use Rattle.plain_model.specs.Pages.{left_out}
 use Rattle.plain_model.proofs.Pages.{front-longest}
 use Rattle.protocol.specs.Parts.{Pending, Campaign}
 use Rattle.protocol.specs.Proposing.{unproposed, entry_size, fresh_entries, with_proposed, as_proposed, single, fresh_choice, Offers}
+use Rattle.quorums.proofs.Each.{front_all}
 
 -- ---- a batch of entries
 
@@ -86,10 +87,6 @@ unproposed_entries (p ∷ pending) all = go p.proposed (unproposed_entries pendi
     go true rest = rest
     go false rest = (all.0, rest)
 
-front_all : (front rest : List Entry) → AllByRecursion IsEntry (front ++ rest) → AllByRecursion IsEntry front
-front_all [] rest all = tt
-front_all (x ∷ front) rest all = (all.0, front_all front rest all.1)
-
 -- a fresh batch is spelled
 pub fresh_batch : (campaign : Campaign) → AllByRecursion (λ (p : Pending). IsEntry p.entry) campaign.pending → (entries : List Entry) → fresh_entries campaign.pending ≡ entries
     → (range : Decided) (taken : ℕ)
@@ -98,7 +95,7 @@ fresh_batch campaign f [] is range taken e = absurd (cc)
 fresh_batch campaign f (entry ∷ entries) is range taken e =
     let longest = front-longest entry_size (8192 - 3) (unproposed campaign.pending) in
     let each : AllByRecursion IsEntry (fresh_entries campaign.pending) =
-    front_all (fresh_entries campaign.pending) (left_out (fresh_entries campaign.pending) (unproposed campaign.pending))
+    front_all IsEntry (fresh_entries campaign.pending) (left_out (fresh_entries campaign.pending) (unproposed campaign.pending))
     (subst (λ l. AllByRecursion IsEntry l) (sym longest.whole) (unproposed_entries campaign.pending f)) in
     let fits : sum_by entry_size (fresh_entries campaign.pending) ≤ 8192 - 3 = longest.fits in
     let here : single campaign.next (batch_bytes (entry ∷ entries)) ≡ range = cc in

@@ -18,7 +18,7 @@ use Rattle.protocol.specs.Parts.{Ring, Campaign}
 use Rattle.protocol.specs.Rings.{majority_of}
 use Rattle.protocol.specs.Ballots.{reached_by, covered_to, leads_now, reported}
 use Rattle.protocol.specs.Proposing.{reported_to, due_by, due_at, first_where, is_any, is_batch, gaps_to, run_end, fresh_entries, single, fresh_choice, Rests, Offers, choice_of, has_room, choice, vote_of}
-use Rattle.protocol.proofs.OfferLemmas.{choice_offer}
+use Rattle.protocol.proofs.OfferLemmas.{choice_offer, some_range}
 use Rattle.step_valid.specs.Valid.{MayVote, CampaignValid}
 use Rattle.step_valid.proofs.Batches.{all_at, fresh_batch}
 
@@ -67,9 +67,6 @@ due_spelled : (o : Option Cast) (gap : Bool) (value : Value) → ((c : Cast) →
 due_spelled (Some cast) gap value h e = let same : cast.value ≡ value = cc in subst (λ (v : Value). IsSpelled v) same (h cast refl)
 due_spelled None true value h e = let same : Skip ≡ value = cc in subst (λ (v : Value). IsSpelled v) same tt
 due_spelled None false value h e = absurd (cc)
-
-some_range : {x y : Decided} {m n : ℕ} → Offers x m ≡ Offers y n → x ≡ y
-some_range e = cc
 
 single_may : (campaign : Campaign) → CampaignValid campaign → (batch : List ℕ) → IsSpelled (Batch batch) → campaign.next < END → MayVote (vote_of campaign.ballot (single campaign.next batch))
 single_may campaign c batch is under = λ lt. record { ballot = c.ballot; range = lt; end = omega arith; alone = λ e. omega arith; value = is }

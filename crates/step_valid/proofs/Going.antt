@@ -15,7 +15,7 @@ use Rattle.vote_journal.specs.Journal.{Journal}
 use Rattle.frames.specs.declared.body.Body.{Body}
 use Rattle.frames.specs.declared.body.Body.TheVariants as body
 use Rattle.beside_rings.specs.Beside.{IsQuiet, IsQuietSent, IsNoLearn, SameBut, AreSame, Untouched}
-use Rattle.beside_rings.proofs.Following.{mapped, Follows-all}
+use Rattle.beside_rings.proofs.Following.{Follows-all}
 use Rattle.beside_rings.proofs.Merge.{merges_untouched}
 use Rattle.protocol.specs.Lines.{Line, Learn}
 use Rattle.protocol.specs.Parts.{Ring, Coordinator, Rounds, Part, Effects}
@@ -28,6 +28,7 @@ use Rattle.protocol.specs.Learning.{with_effects, Queued, queued, proposes_then,
 use Rattle.step_valid.specs.Valid.{MayLearn, IsLearned, BodyValid, SentValid, RoleValid, RoundValid, PartValid, EffectsValid, IsMemberOf, MemberValid, LearnValid, LineValid, AreNumbered}
 use Rattle.step_valid.proofs.Words.{valid_none, valid_proposes}
 use Rattle.step_valid.proofs.Learned.{learns_valid, news_some}
+use Rattle.quorums.proofs.Each.{mapped}
 
 pub record SoFarValid (config : Config) (id : NodeId) (a : StepSoFar) : Type 0 where
   pub own : a.view.id ≡ id

@@ -21,14 +21,11 @@ use Rattle.protocol.specs.Learner.{decided_of, unballoted, learned_ranges, first
 use Rattle.protocol.specs.Acceptor.{page_room, ranges_page}
 use Rattle.protocol.specs.Ballots.{higher, with_reports}
 use Rattle.step_valid.specs.Valid.{MayVote, MayLearn, IsLearned}
+use Rattle.quorums.proofs.Each.{front_all}
 
 pub all_mapped : {T U : Type 0} (g : T → U) (P : T → Type 0) (Q : U → Type 0) → ((x : T) → P x → Q (g x)) → (xs : List T) → AllByRecursion P xs → AllByRecursion Q (map g xs)
 all_mapped g P Q h [] all = tt
 all_mapped g P Q h (x ∷ xs) all = (h x all.0, all_mapped g P Q h xs all.1)
-
-pub front_all : {T : Type 0} (P : T → Type 0) (front rest : List T) → AllByRecursion P (front ++ rest) → AllByRecursion P front
-front_all P [] rest all = tt
-front_all P (x ∷ front) rest all = (all.0, front_all P front rest all.1)
 
 pub back_all : {T : Type 0} (P : T → Type 0) (front rest : List T) → AllByRecursion P (front ++ rest) → AllByRecursion P rest
 back_all P [] rest all = all

@@ -9,8 +9,7 @@ use Rattle.mrp_types.specs.declared.value.Value.{Value}
 use Rattle.mrp_types.specs.declared.voted.Voted.{Voted}
 use Rattle.mrp_types.specs.declared.voted.Decided.{Decided}
 use Rattle.step_valid.specs.Valid.{MayVote, MayLearn, BodyValid, SentValid, CampaignValid, RoleValid, PartValid, EffectsValid}
-use Rattle.beside_rings.proofs.Following.{mapped}
-use Rattle.step_valid.proofs.Listed.{front_all, back_all, set_all, reports_spelled, page_may}
+use Rattle.step_valid.proofs.Listed.{back_all, set_all, reports_spelled, page_may}
 use Rattle.beside_rings.specs.Beside.{IsNoLearn}
 use Rattle.command_codec.specs.Parts.{IsSpelled}
 use Rattle.range_map.specs.Entries.{entries_from}
@@ -39,6 +38,7 @@ use Rattle.protocol.specs.Coordinator.{starts_at, leads, promised, role_refused,
 use Rattle.protocol.specs.Leading.{is_to_start, starts_idle, starts_on_tick}
 use Rattle.protocol.specs.Trimming.{trimmed}
 use Rattle.step_valid.proofs.Words.{valid_sends, valid_each, valid_none, valid_frames, valid_sent, valid_learned, valid_promises, valid_promises_anew, valid_votes_anew, valid_trims, valid_decides_or_forwards, valid_proposes}
+use Rattle.quorums.proofs.Each.{mapped, front_all}
 
 module _ (ring : Ring) (numbered : IsRing ring.id) where
   -- ---- the acceptor's rules

@@ -18,7 +18,6 @@ use Rattle.vote_state.specs.declared.change.Change.TheVariants as change
 use Rattle.vote_state.specs.Ranges.{are_held}
 use Rattle.vote_state.specs.State.{with_vote, with_trim}
 use Rattle.vote_state.specs.Valid.{IsRing, IsBallot, IsInst, IsVoted, IsChange}
-use Rattle.vote_state.proofs.HeldLemmas.{held_empty}
 use Rattle.vote_state.proofs.StateLemmas.{filter_all, append_all, vote_kept, trim_is_kept, promise_is_kept}
 use Rattle.ring_link.specs.Silence.{Link}
 use Rattle.frames.specs.declared.body.Body.{Body}
@@ -31,15 +30,9 @@ use Rattle.protocol.specs.Learner.{decided_of, role_unfinished, without_finished
 use Rattle.protocol.specs.Acceptor.{idle_below, promised_part, promises, votes_for, promises_anew, votes_anew, trims_to, first_decide, decides, decides_or_forwards}
 use Rattle.protocol.proofs.EntryLemmas.{gap}
 use Rattle.protocol.specs.Proposing.{Choice, Rests, Offers, choice, advanced, own_mask, with_outstanding, after_offer, vote_of, offers, Turn, Stops, Proposes, turn_by, turn_in, turn_of, proposing, proposes_after}
+use Rattle.vote_state.proofs.HeldLemmas.{not_held_not_empty}
 
 -- ---- words
-
--- a range that isn't held isn't empty
-not_held_not_empty : (v : Voted) (kept : RingState) → are_held v kept.votes ≡ false → v.lo < v.hi
-not_held_not_empty v kept h = elim (cases_lt v.lo v.hi) [
-  | inl lt ↦ lt
-  | inr empty ↦ let held = held_empty v kept.votes empty in absurd (cc)
-]
 
 module _ (ring : Ring) (numbered : IsRing ring.id) where
   pub valid_sends : (to : Option NodeId) (b : Body) → BodyValid b → AllByRecursion SentValid (sends ring to b)
@@ -104,7 +97,7 @@ module _ (ring : Ring) (numbered : IsRing ring.id) where
     where
       go : (b : Bool) → are_held vote effects.part.kept.votes ≡ b → EffectsValid (if b then effects else votes_for ring vote effects)
       go true e = d
-      go false e = valid_votes effects vote (may (not_held_not_empty vote effects.part.kept e)) d
+      go false e = valid_votes effects vote (may (not_held_not_empty vote effects.part.kept.votes e)) d
 
   pub unfinished_valid : (trim : ℕ) (held : List (ℕ × Value)) (role : Role) → RoleValid role → RoleValid (role_unfinished trim held role)
   unfinished_valid trim held Idle r = tt

@@ -10,7 +10,8 @@ use Rattle.range_map.proofs.SetLemmas.{le-true, le-false}
 use Rattle.vote_state.specs.declared.cast.Cast.{Cast}
 use Rattle.mrp_types.specs.declared.voted.Voted.{Voted}
 use Rattle.vote_state.specs.Ranges.{cast_of, are_same_bytes, is_same_value, is_cast, each_held, are_held}
-use Rattle.vote_state.proofs.RangeLemmas.{cast_eq, eq-true, eq-from, not_true}
+use Rattle.vote_state.proofs.RangeLemmas.{cast_eq, not_true}
+use Rattle.range_map.proofs.EntryLemmas.{eq-true, eq-from}
 
 same_bytes : (xs ys : List ℕ) → are_same_bytes xs ys ≡ true → xs ≡ ys
 same_bytes [] [] h = refl
@@ -81,6 +82,13 @@ held_meaning b v votes is = ((λ h. held_from v votes (sym is ∙ h)), (λ each.
 
 pub held_empty : (v : Voted) (votes : List (ℕ × Cast)) → v.hi ≤ v.lo → true ≡ are_held v votes
 held_empty v votes empty = sym (held_to v votes (λ i a b. absurd (omega arith)))
+
+-- a range that isn't held isn't empty
+pub not_held_not_empty : (v : Voted) (votes : List (ℕ × Cast)) → are_held v votes ≡ false → v.lo < v.hi
+not_held_not_empty v votes h = elim (cases_lt v.lo v.hi) [
+  | inl lt ↦ lt
+  | inr empty ↦ let held = held_empty v votes empty in absurd (cc)
+]
 
 -- where the first instance holds nothing, or a run round it ends too early
 pub held_none : (v : Voted) (votes : List (ℕ × Cast)) → v.lo < v.hi → value_at v.lo votes ≡ None → false ≡ are_held v votes

@@ -13,11 +13,11 @@ use Rattle.vote_state.specs.declared.change.Change.{Change}
 use Rattle.vote_state.specs.declared.change.Change.TheVariants.{Epoch, Promise, Vote, Trim}
 use Rattle.vote_state.specs.Ranges.{ranges_of, votes_of_ranges}
 use Rattle.vote_state.specs.State.{State, IsKept, IsState, no_votes, nothing_kept, ring_at, with_ring, with_promise, with_vote, with_trim, taken, promise_changes, trim_changes, ring_changes, rings_changes, state_changes}
-use Rattle.vote_state.proofs.RangeLemmas.{eq-from}
 use Rattle.vote_state.proofs.OneList.{votes_again}
 use Rattle.vote_state.specs.Valid.{IsChange}
 use Rattle.vote_state.proofs.ValidLemmas.{state_valid}
 use Rattle.vote_state.proofs.StateLemmas.{taken-append}
+use Rattle.range_map.proofs.EntryLemmas.{eq-from}
 
 all_from : (votes : List (ℕ × Cast)) → entries_from 0 votes ≡ votes
 all_from [] = refl

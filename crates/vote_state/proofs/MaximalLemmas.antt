@@ -4,7 +4,7 @@ use Rattle.std.specs.Prelude.{nat_le, Some, Result, Ok, Err, IfOk, if◌then◌e
 use Rattle.std.proofs.lemmas.Bool.{cases_lt, cases_eq}
 use Rattle.range_map.specs.Entries.{value_at, IsIncreasingFrom, entries_from}
 use Rattle.range_map.proofs.RunsLemmas.{within-true, within-below, within-above}
-use Rattle.range_map.proofs.EntryLemmas.{increasing_entries_from}
+use Rattle.range_map.proofs.EntryLemmas.{increasing_entries_from, value_here, value_later}
 use Rattle.vote_state.specs.declared.cast.Cast.{Cast}
 use Rattle.mrp_types.specs.declared.voted.Voted.{Voted}
 use Rattle.vote_state.specs.Ranges.{cast_of, voted, is_one, vote_before, ranges_of, cast_at, AreInOrderFrom, AreAlone, IsApartFrom, AreApart, AreMaximalRanges}
@@ -12,7 +12,7 @@ use Rattle.mrp_types.specs.declared.id.RingId.{RingId}
 use Rattle.mrp_types.specs.declared.memory.Memory.{Memory}
 use Rattle.vote_state.specs.declared.ring.RingState.{RingState}
 use Rattle.vote_state.specs.State.{IsState, State, no_votes, ring_at, votes_at, votes_from}
-use Rattle.vote_state.proofs.RangeLemmas.{value_here, value_later, Touches, one_from}
+use Rattle.vote_state.proofs.RangeLemmas.{Touches, one_from}
 use Rattle.std.specs.List.{AllByRecursion}
 use Rattle.vote_state.specs.Valid.{IsVoted, IsHeld}
 use Rattle.vote_state.proofs.StateLemmas.{each_at, filter_all}

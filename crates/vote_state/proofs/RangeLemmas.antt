@@ -8,27 +8,12 @@ use Rattle.mrp_types.specs.declared.value.Value.TheVariants.{Skip, Batch}
 use Rattle.range_map.specs.Entries.{value_at, IsIncreasingFrom, entries_from, spread_over, IsNextHeld, IsRunRound}
 use Rattle.range_map.proofs.RunsLemmas.{within-true, within-below, within-above}
 use Rattle.range_map.proofs.SetLemmas.{le-true, le-false}
-use Rattle.range_map.proofs.EntryLemmas.{increasing_weaker, same_entries, value_at-spread_over, increasing_spread_over, value_at-entries_from, increasing_entries_from}
+use Rattle.range_map.proofs.EntryLemmas.{increasing_weaker, same_entries, value_at-spread_over, increasing_spread_over, value_at-entries_from, increasing_entries_from, value_later}
 use Rattle.mrp_types.proofs.TestLemmas.{both}
 use Rattle.vote_state.specs.declared.cast.Cast.{Cast}
 use Rattle.mrp_types.specs.declared.voted.Voted.{Voted}
 use Rattle.vote_state.specs.Ranges.{cast_of, voted, is_one, vote_before, ranges_of}
 use Rattle.mrp_types.specs.Values.{is_skip}
-
-pub eq-true : (a b : ℕ) → a ≡ b → nat_eq a b ≡ true
-eq-true a b h = grind (arith, nat_tests)
-
-pub eq-false : (a b : ℕ) → (a ≡ b → ⊥) → nat_eq a b ≡ false
-eq-false a b h = grind (arith, nat_tests)
-
-pub eq-from : (a b : ℕ) → nat_eq a b ≡ true → a ≡ b
-eq-from a b h = grind (arith, nat_tests)
-
-pub value_here : (e : ℕ × Cast) (es : List (ℕ × Cast)) (i : ℕ) → i ≡ e.0 → value_at i (e ∷ es) ≡ Some e.1
-value_here e es i h = rw (eq-true i e.0 h) refl
-
-pub value_later : (e : ℕ × Cast) (es : List (ℕ × Cast)) (i : ℕ) → (i ≡ e.0 → ⊥) → value_at i (e ∷ es) ≡ value_at i es
-value_later e es i h = rw (eq-false i e.0 h) refl
 
 -- ---- ranges that are one
 

@@ -6,7 +6,7 @@ use Rattle.std.proofs.lemmas.Bool.{cases_eq}
 use Rattle.std.proofs.lemmas.List.{drop_all, length-set, get_or-set_same, get_or-set_other}
 use Rattle.mrp_types.specs.declared.id.RingId.{RingId}
 use Rattle.range_map.specs.Entries.{entries_before, entries_from, spread_over, spread}
-use Rattle.range_map.proofs.EntryLemmas.{increasing_with_range, increasing_entries_from}
+use Rattle.range_map.proofs.EntryLemmas.{increasing_with_range, increasing_entries_from, eq-true, eq-false}
 use Rattle.vote_state.specs.declared.cast.Cast.{Cast}
 use Rattle.mrp_types.specs.declared.voted.Voted.{Voted}
 use Rattle.vote_state.specs.Ranges.{cast_of}
@@ -16,7 +16,6 @@ use Rattle.vote_state.specs.declared.change.Change.TheVariants.{Epoch, Promise, 
 use Rattle.vote_state.specs.State.{State, IsKept, AreRings, IsState, no_votes, ring_at, promise_at, trim_at, with_ring, with_promise, with_vote, with_trim, changed, taken, promise_by, promise_after, trim_by, trim_after}
 use Rattle.vote_state.specs.Valid.{IsBallot, IsInst, IsVoted, IsHeld, IsChange}
 use Rattle.command_codec.specs.Parts.{IsSpelled}
-use Rattle.vote_state.proofs.RangeLemmas.{eq-true, eq-false}
 
 pub taken-append : (xs ys : List Change) (s : State) → taken (xs ++ ys) s ≡ taken ys (taken xs s)
 taken-append [] ys s = refl

@@ -7,4 +7,6 @@ pub mod Exact
 pub mod Values
 pub mod Sound
 pub mod Worlds
+pub mod Ready
+pub mod Keeping
 pub mod Events

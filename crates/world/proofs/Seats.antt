@@ -1,5 +1,5 @@
 -- Where acceptors sit.
-use Rattle.std.proofs.Common.{arith, ◌≡◌, ◌<◌, ℕ, zero, suc, List, [], ◌∷◌, length, get_or, Option, Some, None, refl, sym, ap, ◌∙◌, subst, Bool, true, ◌==◌, ◌&&◌, IsTrue}
+use Rattle.std.proofs.Common.{arith, ◌≡◌, ◌<◌, ℕ, zero, suc, List, [], ◌∷◌, length, get_or, Option, Some, None, refl, sym, ap, ◌∙◌, subst, true, ◌==◌}
 use Rattle.std.specs.Prelude.{is_some}
 use Rattle.std.specs.List.{AllByRecursion}
 use Rattle.std.specs.Option.{option_map}
@@ -13,16 +13,19 @@ use Rattle.mrp_types.proofs.TestLemmas.{some_is}
 use Rattle.mrp_config.specs.declared.tables.RingTable.{RingTable}
 use Rattle.world.specs.declared.seat.Seat.{Seat}
 use Rattle.world.specs.Ring.{seat_at, IsRing, IsSeat}
-use Rattle.world.specs.Order.{is_of}
 
 -- a node sits at its first position
 abbrev pub Sits : RingTable → Seat → Type 0
 Sits table seat = seat_of seat.node table.acceptors ≡ Some seat.position
 
+-- a node is one of the ring's acceptors
+abbrev pub IsMember : RingTable → NodeId → Type 0
+IsMember table node = is_some (seat_of node table.acceptors) ≡ true
+
 abbrev pub nobody : NodeId
 nobody = record { 0 = 0 }
 
-found : (table : RingTable) (node : NodeId) (k : ℕ) → seat_of node table.acceptors ≡ Some k → (get_or table.acceptors k nobody).0 ≡ node.0
+pub found : (table : RingTable) (node : NodeId) (k : ℕ) → seat_of node table.acceptors ≡ Some k → (get_or table.acceptors k nobody).0 ≡ node.0
 found table node k is = eqb-true _ _ (position-Some (λ (other : NodeId). other.0 == node.0) table.acceptors k nobody is).1
 
 pub seat_below : (table : RingTable) (seat : Seat) → Sits table seat → seat.position < length table.acceptors
@@ -68,9 +71,6 @@ is_seat ring seat is sits =
       low = low_node ring.acceptors seat.position seat.node is.low below (found ring seat.node seat.position sits);
     }
 
--- who sits in a ring is a node that fits
-pub seat_fits : (table : RingTable) (seat : Seat) → Sits table seat → IsTrue (is_of table seat.node table.id)
-seat_fits table seat sits = both_hold (is_some (seat_of seat.node table.acceptors)) table.id.0 (ap is_some sits)
-  where
-    both_hold : (b : Bool) (n : ℕ) → b ≡ true → (b && (n == n)) ≡ true
-    both_hold b n is = grind arith
+-- who sits in a ring is one of its acceptors
+pub seat_fits : (table : RingTable) (seat : Seat) → Sits table seat → IsMember table seat.node
+seat_fits table seat sits = ap is_some sits

@@ -1,5 +1,5 @@
 -- Each event keeps the world and its lines exact.
-use Rattle.std.proofs.Common.{arith, ◌≡◌, ◌≢◌, ◌≤◌, ℕ, ◌+◌, List, [], ◌∷◌, ◌++◌, length, get_or, Some, refl, sym, ap, ◌∙◌, subst, append_assoc, append-nil, Bool, true, false, ◌==◌, ◌&&◌, nat_lt, if◌then◌else◌, IsTrue}
+use Rattle.std.proofs.Common.{arith, ◌≡◌, ◌≢◌, ◌≤◌, ℕ, ◌+◌, List, [], ◌∷◌, ◌++◌, length, get_or, Some, refl, sym, ap, ◌∙◌, subst, append_assoc, append-nil, Bool, true, false, ◌==◌, ◌&&◌, nat_lt, if◌then◌else◌}
 use Rattle.std.specs.List.{AllByRecursion}
 use Rattle.std.specs.Ordering.{nat_cmp}
 use Rattle.std.specs.BTreeMap.{insert_entry}
@@ -11,12 +11,11 @@ use Rattle.transcript.specs.declared.line.Line.{Line}
 use Rattle.transcript.specs.declared.line.Line.TheVariants.{Learn, Deliver}
 use Rattle.plain_model.specs.Lines.{book}
 use Rattle.plain_model.specs.Lines.{IsWide}
-use Rattle.world.specs.Rules.{F1, position}
-use Rattle.world.proofs.Stretches.{position_from-append}
+use Rattle.world.proofs.Stretches.{stood, stood_from-append}
+use Rattle.world.proofs.Seats.{IsMember}
 use Rattle.mrp_config.specs.declared.tables.RingTable.{RingTable}
-use Rattle.world.specs.Order.{is_of, order_of}
 use Rattle.world.specs.Learner.{Learner, Learned, ready, learning, holds, after_line}
-use Rattle.world.proofs.Exact.{Next, IsExactAfter}
+use Rattle.world.proofs.Exact.{Learns, Next, IsExactAfter}
 use Rattle.world.proofs.Values.{IsOf, one_of, LineOf, book_is, book_has, HeldOf, LearnerOf, held_more, held_insert}
 use Rattle.mrp_types.proofs.TestLemmas.{both}
 
@@ -27,7 +26,7 @@ pub record Goes (table : RingTable) (values : List (List ℕ)) (before : List Li
   pub exact : IsExactAfter table before l.lines
   pub proposed : AllByRecursion (LineOf table values) l.lines
   pub learner : LearnerOf table values (before ++ l.lines) node l.learner
-  pub others : (other : NodeId) → (other.0 ≢ node.0) → position (order_of table) (before ++ l.lines) other ≡ position (order_of table) before other
+  pub others : (other : NodeId) → (other.0 ≢ node.0) → stood (before ++ l.lines) other ≡ stood before other
 
 -- nothing is printed
 goes_idle : (table : RingTable) (values : List (List ℕ)) (before : List Line) (node : NodeId) (l : Learner) → LearnerOf table values before node l →
@@ -36,12 +35,12 @@ goes_idle table values before node l is = record {
   exact = tt;
   proposed = tt;
   learner = subst (λ (b : List Line). LearnerOf table values b node l) (sym (append-nil before)) is;
-  others = λ other apart. ap (λ (b : List Line). position (order_of table) b other) (append-nil before);
+  others = λ other apart. ap (λ (b : List Line). stood b other) (append-nil before);
 }
 
 -- a line first
 goes_after : (table : RingTable) (values : List (List ℕ)) (before : List Line) (node : NodeId) (line : Line) (l : Learned) → IsExactAfter table before (line ∷ []) → LineOf table values line →
-    ((other : NodeId) → (other.0 ≢ node.0) → position (order_of table) (before ++ line ∷ []) other ≡ position (order_of table) before other) →
+    ((other : NodeId) → (other.0 ≢ node.0) → stood (before ++ line ∷ []) other ≡ stood before other) →
     Goes table values (before ++ line ∷ []) node l → Goes table values before node (after_line line l)
 goes_after table values before node line l exact proposed apart goes =
     let joined : (before ++ line ∷ []) ++ l.lines ≡ before ++ line ∷ l.lines = append_assoc before (line ∷ []) l.lines in
@@ -49,32 +48,32 @@ goes_after table values before node line l exact proposed apart goes =
       exact = (exact.0, goes.exact);
       proposed = (proposed, goes.proposed);
       learner = subst (λ (b : List Line). LearnerOf table values b node l.learner) joined goes.learner;
-      others = λ other differs. ap (λ (b : List Line). position (order_of table) b other) (sym joined) ∙ goes.others other differs ∙ apart other differs;
+      others = λ other differs. ap (λ (b : List Line). stood b other) (sym joined) ∙ goes.others other differs ∙ apart other differs;
     }
 
 -- where nodes stand after a deliver line
-stands_delivered : (table : RingTable) (before : List Line) (node : NodeId) (inst : ℕ) → position (order_of table) (before ++ Deliver node table.id inst ∷ []) node ≡ inst + 1
+stands_delivered : (table : RingTable) (before : List Line) (node : NodeId) (inst : ℕ) → stood (before ++ Deliver node table.id inst ∷ []) node ≡ inst + 1
 stands_delivered table before node inst =
-    position_from-append (λ p. p.inst) node 0 before (Deliver node table.id inst ∷ []) ∙ itself (position (order_of table) before node) node.0
+    stood_from-append node 0 before (Deliver node table.id inst ∷ []) ∙ itself (stood before node) node.0
   where
     itself : (now n : ℕ) → (if n == n then inst + 1 else now) ≡ inst + 1
     itself now n = grind arith
 
 stands_apart : (table : RingTable) (before : List Line) (node other : NodeId) (inst : ℕ) → other.0 ≢ node.0 →
-    position (order_of table) (before ++ Deliver node table.id inst ∷ []) other ≡ position (order_of table) before other
+    stood (before ++ Deliver node table.id inst ∷ []) other ≡ stood before other
 stands_apart table before node other inst differs =
-    position_from-append (λ p. p.inst) other 0 before (Deliver node table.id inst ∷ []) ∙ another (position (order_of table) before other) node.0 other.0 differs
+    stood_from-append other 0 before (Deliver node table.id inst ∷ []) ∙ another (stood before other) node.0 other.0 differs
   where
     another : (now n m : ℕ) → m ≢ n → (if n == m then inst + 1 else now) ≡ now
     another now n m differs = grind arith
 
 stands_learned : (table : RingTable) (before : List Line) (node other : NodeId) (lo hi : ℕ) (value : Value) →
-    position (order_of table) (before ++ Learn node table.id lo hi value ∷ []) other ≡ position (order_of table) before other
-stands_learned table before node other lo hi value = position_from-append (λ p. p.inst) other 0 before (Learn node table.id lo hi value ∷ [])
+    stood (before ++ Learn node table.id lo hi value ∷ []) other ≡ stood before other
+stands_learned table before node other lo hi value = stood_from-append other 0 before (Learn node table.id lo hi value ∷ [])
 
 by_ready : (table : RingTable) (t : Bool) (values : List (List ℕ)) (before : List Line) (node : NodeId) (next : ℕ) (e : ℕ × Value) (later : List (ℕ × Value)) →
-    ((e.0 == next) && nat_lt next END) ≡ t → IsTrue (is_of table node table.id) → position (order_of table) before node ≡ next → AllByRecursion (HeldOf table values before) (e ∷ later) →
-    ((b : List Line) → position (order_of table) b node ≡ next + 1 → AllByRecursion (HeldOf table values b) later → Goes table values b node (ready table.id node (next + 1) later)) →
+    ((e.0 == next) && nat_lt next END) ≡ t → IsMember table node → stood before node ≡ next → AllByRecursion (HeldOf table values before) (e ∷ later) →
+    ((b : List Line) → stood b node ≡ next + 1 → AllByRecursion (HeldOf table values b) later → Goes table values b node (ready table.id node (next + 1) later)) →
     Goes table values before node (if t then after_line (Deliver node table.id next) (ready table.id node (next + 1) later)
     else record { learner = record { next = next; ahead = e ∷ later }; lines = [] })
 by_ready table true values before node next e later test fits stands held go =
@@ -92,7 +91,7 @@ by_ready table false values before node next e later test fits stands held go =
     goes_idle table values before node (record { next = next; ahead = e ∷ later }) (record { stands = stands; ahead = held })
 
 pub ready_goes : (table : RingTable) (values : List (List ℕ)) (before : List Line) (node : NodeId) (next : ℕ) (ahead : List (ℕ × Value)) →
-    IsTrue (is_of table node table.id) → position (order_of table) before node ≡ next → AllByRecursion (HeldOf table values before) ahead → Goes table values before node (ready table.id node next ahead)
+    IsMember table node → stood before node ≡ next → AllByRecursion (HeldOf table values before) ahead → Goes table values before node (ready table.id node next ahead)
 ready_goes table values before node next [] fits stands held = goes_idle table values before node (record { next = next; ahead = [] }) (record { stands = stands; ahead = tt })
 ready_goes table values before node next (e ∷ later) fits stands held =
     by_ready table ((e.0 == next) && nat_lt next END) values before node next e later refl fits stands held
@@ -101,8 +100,9 @@ ready_goes table values before node next (e ∷ later) fits stands held =
 -- ---- a value that is learned
 
 learn_exact : (table : RingTable) (values : List (List ℕ)) (before : List Line) (node : NodeId) (inst : ℕ) (value : Value) → AllByRecursion (LineOf table values) before →
-    length values ≤ END → IsTrue (is_of table node table.id) → IsOf values inst value → F1 (order_of table) before node table.id inst (inst + 1) value
+    length values ≤ END → IsMember table node → IsOf values inst value → Learns table before node table.id inst (inst + 1) value
 learn_exact table values before node inst value are low fits is = record {
+  own = refl;
   fits = fits;
   some = omega arith;
   low = omega (arith, is.low, low);
@@ -113,7 +113,7 @@ learn_exact table values before node inst value are low fits is = record {
 }
 
 by_held : (table : RingTable) (t : Bool) (values : List (List ℕ)) (before : List Line) (node : NodeId) (inst : ℕ) (value : Value) (l : Learner) →
-    AllByRecursion (LineOf table values) before → length values ≤ END → IsTrue (is_of table node table.id) → IsOf values inst value → LearnerOf table values before node l →
+    AllByRecursion (LineOf table values) before → length values ≤ END → IsMember table node → IsOf values inst value → LearnerOf table values before node l →
     Goes table values before node (if t then record { learner = l; lines = [] }
     else after_line (Learn node table.id inst (inst + 1) value) (ready table.id node l.next (insert_entry nat_cmp l.ahead inst value)))
 by_held table true values before node inst value l are low fits is learner = goes_idle table values before node l learner
@@ -127,6 +127,6 @@ by_held table false values before node inst value l are low fits is learner =
     (ready_goes table values after node l.next (insert_entry nat_cmp l.ahead inst value) fits (stands_learned table before node node inst (inst + 1) value ∙ learner.stands) held)
 
 pub learning_goes : (table : RingTable) (values : List (List ℕ)) (before : List Line) (node : NodeId) (inst : ℕ) (value : Value) (l : Learner) →
-    AllByRecursion (LineOf table values) before → length values ≤ END → IsTrue (is_of table node table.id) → IsOf values inst value → LearnerOf table values before node l →
+    AllByRecursion (LineOf table values) before → length values ≤ END → IsMember table node → IsOf values inst value → LearnerOf table values before node l →
     Goes table values before node (learning table.id node inst value l)
 learning_goes table values before node inst value l are low fits is learner = by_held table (holds l inst) values before node inst value l are low fits is learner

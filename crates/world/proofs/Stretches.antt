@@ -1,11 +1,20 @@
--- Where a node stands after two stretches of lines, one after the other.
-use Rattle.std.proofs.Common.{◌≡◌, ℕ, List, [], ◌∷◌, ◌++◌, refl}
+-- Where a node of the ring stands after lines: just past the last instance that it delivered.
+use Rattle.std.proofs.Common.{◌≡◌, ℕ, ◌+◌, ◌==◌, if◌then◌else◌, List, [], ◌∷◌, ◌++◌, refl}
 use Rattle.mrp_types.specs.declared.id.NodeId.{NodeId}
-use Rattle.mrp_types.specs.declared.place.Place.{Place}
 use Rattle.transcript.specs.declared.line.Line.{Line}
-use Rattle.world.specs.Lines.{position_from, position_after}
+use Rattle.transcript.specs.declared.line.Line.TheVariants.{Deliver}
 
-pub position_from-append : (number : Place → ℕ) (node : NodeId) (now : ℕ) (xs ys : List Line) →
-    position_from number node now (xs ++ ys) ≡ position_from number node (position_from number node now xs) ys
-position_from-append number node now [] ys = refl
-position_from-append number node now (x ∷ xs) ys = position_from-append number node (position_after number node now x) xs ys
+abbrev pub stood_after : NodeId → ℕ → Line → ℕ
+stood_after node now (Deliver other ring inst) = if other.0 == node.0 then inst + 1 else now
+stood_after node now other = now
+
+abbrev pub stood_from : NodeId → ℕ → List Line → ℕ
+stood_from node now [] = now
+stood_from node now (line ∷ lines) = stood_from node (stood_after node now line) lines
+
+abbrev pub stood : List Line → NodeId → ℕ
+stood before node = stood_from node 0 before
+
+pub stood_from-append : (node : NodeId) (now : ℕ) (xs ys : List Line) → stood_from node now (xs ++ ys) ≡ stood_from node (stood_from node now xs) ys
+stood_from-append node now [] ys = refl
+stood_from-append node now (x ∷ xs) ys = stood_from-append node (stood_after node now x) xs ys

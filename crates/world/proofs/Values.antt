@@ -15,13 +15,12 @@ use Rattle.mrp_types.specs.Book.{Learning, book_of, covers}
 use Rattle.transcript.specs.declared.line.Line.{Line}
 use Rattle.transcript.specs.declared.line.Line.TheVariants.{Learn}
 use Rattle.plain_model.specs.Lines.{learnings, book}
-use Rattle.world.specs.Rules.{position}
+use Rattle.world.proofs.Stretches.{stood}
 use Rattle.plain_model.proofs.Fronts.{learnings-append, book-more}
 use Rattle.mrp_config.specs.declared.tables.RingTable.{RingTable}
 use Rattle.frames.specs.declared.body.Body.{Body}
 use Rattle.frames.specs.declared.body.Body.TheVariants.{Submit, Prepare, Promise, Refuse, Accept, Decide, Fetch, Chosen, Trimmed, AskSafe, Safe, TrimTo, AskCheckpoint, HaveCheckpoint, AskPart, Part, Gone, Reply, Hello}
 use Rattle.frames.specs.declared.sent.Sent.{Sent}
-use Rattle.world.specs.Order.{order_of}
 use Rattle.world.specs.Learner.{Learner}
 use Rattle.mrp_types.proofs.TestLemmas.{both}
 
@@ -160,7 +159,7 @@ abbrev pub HeldOf : RingTable → List (List ℕ) → List Line → ℕ × Value
 HeldOf table values before held = IsOf values held.0 held.1 × (book before table.id held.0 ≡ Some held.1)
 
 pub record LearnerOf (table : RingTable) (values : List (List ℕ)) (before : List Line) (node : NodeId) (l : Learner) : Type 0 where
-  pub stands : position (order_of table) before node ≡ l.next
+  pub stands : stood before node ≡ l.next
   pub ahead : AllByRecursion (HeldOf table values before) l.ahead
 
 pub held_more : (table : RingTable) (values : List (List ℕ)) (before more : List Line) (held : List (ℕ × Value)) → AllByRecursion (HeldOf table values before) held → AllByRecursion (HeldOf table values (before ++ more)) held

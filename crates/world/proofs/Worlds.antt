@@ -28,10 +28,9 @@ use Rattle.schedule.specs.declared.event.ScheduleEvent.TheVariants.{Ask, Flow, L
 use Rattle.world.specs.declared.seat.Seat.{Seat}
 use Rattle.world.specs.Ring.{seat_at, majority, has_bit, with_bit, coordinator}
 use Rattle.world.specs.Learner.{Learner, Learned, nothing_learned, learning}
-use Rattle.world.specs.Order.{KeepsRules}
 use Rattle.world.specs.System.{World, Outcome, start, quiet, sends, passes_on, then_passes_on, request_of, request_cmp, client_cmp, asked_or, learner_at, learner_or, learns, decides, votes, submits, handles, handles_at, delivers, and_then, moves_on, flows, asks, happens, lines_from, trace}
 use Rattle.world.proofs.Seats.{Sits, same_seat, one_seat, seat_below, seat_sits, seat_fits}
-use Rattle.world.proofs.Exact.{same_node, stands_shown, IsExactAfter, IsExactAfter-append, exact_is_faithful, in_turn}
+use Rattle.world.proofs.Exact.{same_node, stands_shown, IsExactAfter, IsExactAfter-append}
 use Rattle.world.proofs.Values.{IsOf, LineOf, lines_more, lines_append, BodyOf, SentOf, frames_more, frames_push, frame_at, LearnerOf, held_more, held_values}
 use Rattle.world.proofs.Sound.{Goes, learning_goes}
 
@@ -326,7 +325,7 @@ shown table values before w number s = (
       frames = s.frames;
       lines = lines_append table values before (happens w (Shows number)).lines s.lines (tt, tt);
       learners = λ seat sits. record {
-        stands = stands_shown table before number _ seat.node ∙ (s.learners seat sits).stands;
+        stands = stands_shown before number _ seat.node ∙ (s.learners seat sits).stands;
         ahead = held_more table values before (happens w (Shows number)).lines (learner_at w seat.position).ahead (s.learners seat sits).ahead;
       };
     };
@@ -382,10 +381,3 @@ starts table = record {
 pub trace_is_exact : (table : RingTable) (events : List ScheduleEvent) → IsExactAfter table [] (trace table events)
 unfolding trace
 trace_is_exact table events = all_exact table [] [] (start table) events (End (length events) ∷ []) (starts table) (λ b. (tt, tt))
-
--- the lines of every schedule keep the rules
-pub trace_rules : (table : RingTable) (events : List ScheduleEvent) → KeepsRules table (trace table events)
-trace_rules table events = record {
-  faithful = exact_is_faithful table [] (trace table events) (trace_is_exact table events);
-  in_turn = λ node. in_turn table [] (trace table events) node (trace_is_exact table events);
-}

@@ -3,6 +3,5 @@ pub mod Built
 pub mod Learner
 pub mod System
 pub mod Lines
-pub mod Rules
 pub mod Order
 pub mod Rows

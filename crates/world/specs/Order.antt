@@ -1,25 +1,38 @@
--- The order in which the nodes of a ring deliver, and the rules that lines keep.
-use Rattle.std.specs.Prelude.{◌≡◌, ◌==◌, ◌&&◌, Bool, is_some, List, length}
+-- What the lines of the program keep, after the lines with which a system begins whose nodes are ready at once.
+use Rattle.std.specs.Prelude.{◌≡◌, ℕ, List, [], ◌∷◌, ◌++◌, length}
+use Rattle.std.specs.List.{flat_map}
 use Rattle.mrp_types.specs.declared.id.NodeId.{NodeId}
-use Rattle.mrp_types.specs.declared.id.RingId.{RingId}
-use Rattle.mrp_types.specs.Seats.{seat_of}
-use Rattle.mrp_config.specs.declared.tables.RingTable.{RingTable}
+use Rattle.mrp_config.specs.Config.{Config}
+use Rattle.mrp_config.specs.declared.tables.PartitionTable.{PartitionTable}
+use Rattle.plain_model.specs.Tuples.{first_tuple, instances}
 use Rattle.transcript.specs.declared.line.Line.{Line}
+use Rattle.transcript.specs.declared.line.Line.TheVariants.{Up, Begin, Chose, Restore}
+use Rattle.line_rules.specs.Names.{Rule}
+use Rattle.line_rules.specs.Names as rule
+use Rattle.line_rules.specs.Rules.{Keeps}
+use Rattle.line_rules.specs.Scanners.{past}
 use Rattle.world.specs.Lines.{deliveries, counted}
-use Rattle.world.specs.Rules.{Order, IsFaithful}
 
--- the node is an acceptor of the ring, and the ring is this one
-abbrev pub is_of : RingTable → NodeId → RingId → Bool
-is_of ring node other = is_some (seat_of node ring.acceptors) && (other.0 == ring.id.0)
+-- A node is up for the first time, begins its first attempt at a tuple, chooses what it told itself, and is ready there.
+abbrev pub ready_node : List ℕ → NodeId → List Line
+ready_node printed node = Up node 1 ∷ Begin node 1 1 printed ∷ Chose node 1 1 printed node ∷ Restore node printed ∷ []
 
--- The nodes are the ring's acceptors. Each subscribes to this ring alone, whose places are its instances, and is ready from
--- the start.
-abbrev pub order_of : RingTable → Order
-order_of ring = record { fits = is_of ring; subscribes = is_of ring; number = λ node place. place.inst; ready = λ node. 0 }
+-- each replica of a partition, at the first tuple of its rings
+abbrev pub ready_replicas : PartitionTable → List Line
+ready_replicas p = flat_map (ready_node (instances (first_tuple p.rings))) p.replicas
 
--- Lines that keep the rules: each line names acceptors of the ring and this ring alone, each learn line agrees with the book
--- of the lines before it, each deliver line is of a batch that the book has, and each node delivers the instances 0, 1, 2 and
--- so on without a gap or a repeat.
-pub record KeepsRules (ring : RingTable) (lines : List Line) : Type 0 where
-  pub faithful : IsFaithful (order_of ring) lines
+-- The lines with which a whole system begins whose nodes are ready: each replica of each partition in order. Where the step is
+-- built, these are the acceptors of the one ring.
+abbrev pub ready_lines : Config → List Line
+ready_lines c = flat_map ready_replicas c.partitions
+
+-- each line keeps the rule after those and the lines before it
+abbrev pub EachKeeps : Rule → Config → List Line → Type 0
+EachKeeps name c lines = (front : List Line) (line : Line) (rest : List Line) → lines ≡ front ++ line ∷ rest → Keeps name c (past (past [] (ready_lines c)) front) line
+
+-- Lines that keep the rules of learn and of deliver lines, and in which each node delivers the instances 0, 1, 2 and so on without a
+-- gap or a repeat.
+pub record KeepsRules (c : Config) (lines : List Line) : Type 0 where
+  pub one_value : EachKeeps rule.F1 c lines
+  pub one_order : EachKeeps rule.F2 c lines
   pub in_turn : (node : NodeId) → deliveries node lines ≡ counted 0 (length (deliveries node lines))

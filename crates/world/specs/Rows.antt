@@ -1,7 +1,8 @@
 -- Worked schedules and the lines that they print, for rings of three, two and one acceptors.
-use Rattle.std.specs.Prelude.{ℕ, ◌+◌, List, [], ◌∷◌, ◌++◌, Some, None}
+use Rattle.std.specs.Prelude.{ℕ, ◌+◌, List, [], ◌∷◌, ◌++◌, length, map, Some, None}
+use Rattle.std.specs.List.{flat_map}
 use Rattle.mrp_types.specs.declared.id.NodeId.{NodeId}
-use Rattle.mrp_types.specs.declared.id.Party.TheVariants.{Node}
+use Rattle.mrp_types.specs.declared.id.Party.TheVariants.{Node, Client}
 use Rattle.mrp_types.specs.declared.value.Value.TheVariants.{Batch}
 use Rattle.mrp_config.specs.declared.tables.RingTable.{RingTable}
 use Rattle.command_codec.specs.declared.command.Command.TheVariants.{Append}
@@ -9,6 +10,7 @@ use Rattle.transcript.specs.declared.line.Line.{Line}
 use Rattle.transcript.specs.declared.line.Line.TheVariants.{Learn, Deliver, Frame, End}
 use Rattle.schedule.specs.declared.event.ScheduleEvent.{ScheduleEvent}
 use Rattle.schedule.specs.declared.event.ScheduleEvent.TheVariants as event
+use Rattle.world.specs.System.{World, happens}
 
 abbrev pub node : ℕ → NodeId
 node n = record { 0 = n }
@@ -98,3 +100,68 @@ alone = ask 0 (104 ∷ 105 ∷ []) ∷ event.Deliver 0 ∷ event.List 1 ∷ []
 
 abbrev pub alone_lines : List Line
 alone_lines = learn 7 0 hi ∷ deliver 7 0 ∷ Frame 1 None ∷ End 3 ∷ []
+
+-- how many frames were sent once the events have happened
+abbrev pub sent : World → List ScheduleEvent → ℕ
+sent w [] = length w.frames
+sent w (event ∷ events) = sent (happens w event).world events
+
+-- a command that is delivered to its coordinator twice
+abbrev pub again_asked : List ScheduleEvent
+again_asked = ask 0 (104 ∷ 105 ∷ []) ∷ event.Deliver 0 ∷ event.Deliver 0 ∷ []
+
+-- each client counts its own commands
+abbrev pub counting : List ScheduleEvent
+counting =
+    ask 0 (104 ∷ 105 ∷ []) ∷ ask 255 [] ∷ ask 0 (104 ∷ 105 ∷ []) ∷ event.List 0 ∷ event.List 1 ∷ event.List 2 ∷ []
+
+-- the frame of a command of ring 3 to node 7
+abbrev pub submitted : ℕ → ℕ → ℕ → List ℕ → Line
+submitted number client seq command = Frame number (Some (record {
+  from = Client (record { 0 = client });
+  to = Node (node 7);
+  bytes = 0x4d ∷ 0x52 ∷ 2 ∷ 1 ∷ 1 ∷ client ∷ 3 ∷ 0 ∷ client ∷ 0 ∷ 0 ∷ 0 ∷ 0 ∷ 0 ∷ 0 ∷ 0 ∷ seq ∷ 0 ∷ length command ∷ command;
+}))
+
+abbrev pub counting_lines : List Line
+counting_lines =
+    submitted 0 0 1 (1 ∷ 0 ∷ 0 ∷ 2 ∷ 104 ∷ 105 ∷ []) ∷
+    submitted 1 255 1 (1 ∷ 0 ∷ 0 ∷ 0 ∷ []) ∷
+    submitted 2 0 2 (1 ∷ 0 ∷ 0 ∷ 2 ∷ 104 ∷ 105 ∷ []) ∷
+    End 6 ∷ []
+
+-- the first command is lost
+abbrev pub second : List ScheduleEvent
+second = ask 0 (97 ∷ []) ∷ event.Lose 100 ∷ ask 1 (98 ∷ []) ∷ event.Flow 1 ∷ []
+
+abbrev pub second_lines : List Line
+second_lines = learn 7 0 b ∷ deliver 7 0 ∷ End 4 ∷ []
+
+-- ---- rings of each size
+
+-- the acceptors of a ring, the order in which they learn a command, and how many frames that takes
+pub record Round : Type 0 where
+  pub acceptors : List ℕ
+  pub learners : List ℕ
+  pub frames : ℕ
+
+abbrev pub sized_ring : Round → RingTable
+sized_ring round = ring_of 0 (map node round.acceptors)
+
+-- each learns it and delivers it
+abbrev pub round_of : Round → List Line
+round_of round = flat_map (λ (n : ℕ). learn n 0 hi ∷ deliver n 0 ∷ []) round.learners ++ End 2 ∷ []
+
+abbrev pub round : List ℕ → List ℕ → ℕ → Round
+round acceptors learners frames = record { acceptors = acceptors; learners = learners; frames = frames }
+
+abbrev pub sizes : List Round
+sizes =
+    round (4 ∷ []) (4 ∷ []) 1 ∷
+    round (4 ∷ 0 ∷ []) (0 ∷ 4 ∷ []) 3 ∷
+    round (4 ∷ 0 ∷ 31 ∷ []) (0 ∷ 31 ∷ 4 ∷ []) 4 ∷
+    round (4 ∷ 0 ∷ 31 ∷ 2 ∷ []) (31 ∷ 2 ∷ 4 ∷ 0 ∷ []) 6 ∷
+    round (4 ∷ 0 ∷ 31 ∷ 2 ∷ 9 ∷ []) (31 ∷ 2 ∷ 9 ∷ 4 ∷ 0 ∷ []) 7 ∷
+    round (4 ∷ 0 ∷ 31 ∷ 2 ∷ 9 ∷ 1 ∷ []) (2 ∷ 9 ∷ 1 ∷ 4 ∷ 0 ∷ 31 ∷ []) 9 ∷
+    round (4 ∷ 0 ∷ 31 ∷ 2 ∷ 9 ∷ 1 ∷ 7 ∷ []) (2 ∷ 9 ∷ 1 ∷ 7 ∷ 4 ∷ 0 ∷ 31 ∷ []) 10 ∷
+    []

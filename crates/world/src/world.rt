@@ -80,13 +80,6 @@ impl World {
         })
     }
 
-    /// How many frames were sent.
-    pub fn sent(&self) -> u64
-        ensures { result ≡ length self.now.frames }
-    {
-        self.frames.items().len() as u64
-    }
-
     // One more frame is sent.
     fn send(&mut self, from: Party, to: Party, body: Body) -> Result<(), Memory>
         requires { IsFrame (record { from = from; body = body }) }

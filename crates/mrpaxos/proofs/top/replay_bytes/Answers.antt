@@ -1,11 +1,15 @@
 use Rattle.std.proofs.Common.{inr, sym, ◌∙◌}
 use Rattle.outside.proofs.WritingLemmas.{appended}
-use Rattle.world.proofs.Worlds.{trace_rules}
+use Rattle.world.proofs.Rings.{built_ring_is}
+use Rattle.world.proofs.Keeping.{trace_keeps}
 use Rattle.mrpaxos.proofs.Runs.{all_may_happen}
 use Rattle.mrpaxos.proofs.top.replay_bytes.Goals as goal
 
 pub replay-requires-clause-events : goal.replay-requires-clause-events
 replay-requires-clause-events g c = all_may_happen c.args.deployment.now c.in-Ok.schedule c.in-Ok.ensures.found.each
+
+pub replay-requires-clause-ring : goal.replay-requires-clause-ring
+replay-requires-clause-ring g c = built_ring_is c.args.deployment.now c.args.ring c.requires.valid c.requires.built
 
 pub returns-in-Ok-replay : goal.returns-in-Ok-replay
 returns-in-Ok-replay g c = (
@@ -13,7 +17,7 @@ returns-in-Ok-replay g c = (
   record {
     schedule = c.in-Ok.ensures.found;
     built = sym c.first_unbuilt.ensures.first ∙ c.in_default.is;
-    rules = trace_rules c.args.ring c.in-Ok.schedule;
+    rules = trace_keeps c.args.deployment.now c.args.ring c.requires.valid c.requires.built c.in-Ok.schedule;
     text = appended _ _ _ c.in-Ok-replay.ensures.written;
     faults = c.in-Ok-replay.ensures.fault;
   },
@@ -28,7 +32,7 @@ returns-in-Err-Sink g c =
       record {
         schedule = c.in-Ok.ensures.found;
         built = sym c.first_unbuilt.ensures.first ∙ c.in_default.is;
-        rules = trace_rules c.args.ring c.in-Ok.schedule;
+        rules = trace_keeps c.args.deployment.now c.args.ring c.requires.valid c.requires.built c.in-Ok.schedule;
         front = written.1.taken;
       },
       says.fault,
@@ -44,7 +48,7 @@ returns g c =
       record {
         schedule = c.in-Ok.ensures.found;
         built = sym c.first_unbuilt.ensures.first ∙ c.in_default.is;
-        rules = trace_rules c.args.ring c.in-Ok.schedule;
+        rules = trace_keeps c.args.deployment.now c.args.ring c.requires.valid c.requires.built c.in-Ok.schedule;
         front = written.1.taken;
       },
       says.fault,

@@ -1,7 +1,7 @@
 use Rattle.std.proofs.Common.{sym, ◌∙◌}
-use Rattle.vote_state.proofs.RangeLemmas.{eq-false}
 use Rattle.vote_state.proofs.HeldLemmas.{held_empty, held_none, held_short, held_value, held_ballot}
 use Rattle.vote_state.proofs.ring.holds.Goals as goal
+use Rattle.range_map.proofs.EntryLemmas.{eq-false}
 
 pub returns-then-vote : goal.returns-then-vote
 returns-then-vote c = held_empty c.args.vote.now c.args.votes.now c.if-vote.true
