@@ -19,7 +19,7 @@ head-front pair file image has =
     ∙ ap (head_in pair) has.front
     ∙ sym (ap (λ b. cond b (head_in pair (take 16 file)) Closed) (le-leb 17 (length file) (omega (arith, has.longer, has.no_longer))))
 
-not_one : (n : ℕ) → n ≢ 1 → nat_eq n 1 ≡ false
+pub not_one : (n : ℕ) → n ≢ 1 → nat_eq n 1 ≡ false
 not_one n differs = elim (eqb_tells n 1) [ inl alike ↦ absurd (differs alike.1) | inr other ↦ other.0 ]
 
 not_equal : (n m : ℕ) → n ≢ m → nat_eq n m ≡ false

@@ -8,6 +8,7 @@ use Rattle.std.proofs.lemmas.List.{get_or-drop, get_or-take, get_or_past, take-a
 use Rattle.std.proofs.lemmas.List.Elements.{All-nil, All-cons, All-head, All-tail}
 use Rattle.std.proofs.lemmas.Nat.{be_bytes_4, from_be_bytes-to_be_bytes_4}
 use Rattle.gate_log.specs.Records.{u32_bytes, u32_of, opened_record, all_opened, room, gate_of, IsShort, StandsFor, Mark, Shut, Opens, Broken, mark_behind, mark_of, preceded, record_at, by_mark, records_from, walk_of}
+use Rattle.gate_area.proofs.Heads.{not_one}
 
 pub length-u32 : (n : ℕ) → length (u32_bytes n) ≡ 4
 unfolding u32_bytes
@@ -22,9 +23,6 @@ length-opened (r ∷ rs) =
 u32_again : (n : ℕ) → n < 2 ^ 32 → u32_of (u32_bytes n) ≡ n
 unfolding u32_bytes u32_of
 u32_again n short = from_be_bytes-to_be_bytes_4 n short
-
-not_one : (n : ℕ) → n ≢ 1 → nat_eq n 1 ≡ false
-not_one n differs = elim (eqb_tells n 1) [ inl alike ↦ absurd (differs alike.1) | inr other ↦ other.0 ]
 
 -- a record behind an open gate is found there
 mark_of_record : (r more : List ℕ) → IsShort r → mark_of (opened_record r ++ more) ≡ Opens (length r)

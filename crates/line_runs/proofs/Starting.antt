@@ -14,11 +14,7 @@ use Rattle.faithful.proofs.Ordering.{is_tuple}
 use Rattle.recovery_lines.specs.Ties.{KeptLines}
 use Rattle.step_lines.specs.Effects.{KeptFor}
 use Rattle.line_runs.specs.Invariant.{node, PossibleLines, WorldLines}
-
-none_below : (rings : List RingId) (p : Place) → IsBelow p (first_tuple rings) → ⊥
-none_below [] p below = below
-none_below (ring ∷ rings) p (inl here) = omega (arith, here.1)
-none_below (ring ∷ rings) p (inr there) = none_below rings p there
+use Rattle.mrp_types.proofs.TupleOrder.{none_below}
 
 first_rings : (rings : List RingId) → has_rings rings (first_tuple rings) ≡ true
 first_rings [] = refl

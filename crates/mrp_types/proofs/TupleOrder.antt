@@ -228,7 +228,7 @@ next_before m x pairs q not = elim ((in_one_order m).total (place_of (next_place
   | inr (inr behind) ↦ absurd (none_before_next m (x ∷ pairs) q not.0 behind)
 ]
 
-none_below : (rings : List RingId) (p : Place) → IsBelow p (first_tuple rings) → ⊥
+pub none_below : (rings : List RingId) (p : Place) → IsBelow p (first_tuple rings) → ⊥
 none_below [] p below = below
 none_below (ring ∷ rings) p (inl here) = omega (arith, here.1)
 none_below (ring ∷ rings) p (inr there) = none_below rings p there

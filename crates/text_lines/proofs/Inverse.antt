@@ -99,7 +99,7 @@ within_decimal n least most rest enough few small =
 
 -- ---- bytes
 
-false_if : (t : Bool) → (t ≡ true → ⊥) → t ≡ false
+pub false_if : (t : Bool) → (t ≡ true → ⊥) → t ≡ false
 false_if true never = absurd (never refl)
 false_if false never = refl
 

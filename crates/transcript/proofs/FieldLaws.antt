@@ -14,7 +14,7 @@ use Rattle.text_lines.specs.Text.{joined_by}
 use Rattle.text_lines.specs.Reading.{number_of as decimal_of, hex_of}
 use Rattle.text_lines.specs.declared.fault.TextFault.{TextFault}
 use Rattle.text_lines.proofs.Laws.{Lacks, pieces_of_joined, joined_pieces_of}
-use Rattle.text_lines.proofs.Inverse.{number_of_decimal, decimal_of_number, hex_of_text, text_of_hex, lacks_decimal, lacks_encoded}
+use Rattle.text_lines.proofs.Inverse.{number_of_decimal, decimal_of_number, hex_of_text, text_of_hex, lacks_decimal, lacks_encoded, false_if}
 use Rattle.command_codec.specs.Grammar.{batch_at}
 use Rattle.command_codec.specs.Parts.{spells_batch}
 use Rattle.mrp_types.proofs.TestLemmas.{both, below as is_below, some_is}
@@ -31,10 +31,6 @@ use Rattle.transcript.proofs.WordLaws.{Field}
 then_was : {A : Type 0} (t : Bool) (x y : A) → (if t then Some x else None) ≡ Some y → (t ≡ true) × (x ≡ y)
 then_was true x y h = (refl, cc)
 then_was false x y h = absurd (grind arith)
-
-pub false_if : (t : Bool) → (t ≡ true → ⊥) → t ≡ false
-false_if true never = absurd (never refl)
-false_if false never = refl
 
 -- ---- numbers
 
