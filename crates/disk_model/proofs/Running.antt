@@ -5,7 +5,7 @@ use Rattle.std.proofs.lemmas.List.{append-nil, append_assoc, take-append-le, tak
 use Rattle.disk_model.specs.declared.call.Call.{Call}
 use Rattle.disk_model.specs.Calls.{Told, and_then}
 use Rattle.disk_model.specs.Sim.{Sim}
-use Rattle.disk_model.specs.Running.{Op, Asks, Reads, Does, Ending, Passed, Stopped, Wanted, falls_on, op_passed, op_failed, in_want, GoesAt, Goes, Ran, ran, by_fault, changes_in, Left, WantedIn, Came, GoesBy}
+use Rattle.disk_model.specs.Running.{Op, Asks, Reads, Does, Ending, Passed, Stopped, Wanted, falls_on, op_passed, op_failed, in_want, GoesAt, Goes, Ran, ran, by_fault, changes_in, Left, Came, GoesBy}
 
 -- ---- one operation and then others
 

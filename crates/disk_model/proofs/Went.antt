@@ -1,5 +1,5 @@
 -- How a call goes by several operations, one after another.
-use Rattle.std.proofs.Common.{◌≡◌, ◌⊎◌, ℕ, ◌+◌, ◌≤◌, min, Bool, true, false, List, [], ◌∷◌, ◌++◌, length, take, Option, None, Some, Result, Ok, Err, OnOk, OnErr, IsErrAnd, replicate, zero, suc, refl, ap, sym, ◌∙◌, subst, append_assoc, arith}
+use Rattle.std.proofs.Common.{◌≡◌, ℕ, ◌+◌, min, Bool, true, false, List, [], ◌∷◌, ◌++◌, length, take, Option, None, Some, Result, Ok, Err, OnOk, OnErr, IsErrAnd, replicate, zero, suc, refl, ap, sym, ◌∙◌, subst, append_assoc, arith}
 use Rattle.std.proofs.Math.Seq.{take-append-add, take-append_seam}
 use Rattle.std.proofs.lemmas.List.{append-nil}
 use Rattle.disk_model.specs.declared.area.Refused.{Refused}
@@ -7,9 +7,9 @@ use Rattle.disk_model.specs.declared.area.Refused.TheVariants.{Failed, Memory}
 use Rattle.disk_model.specs.declared.areas.Areas.{Areas}
 use Rattle.disk_model.specs.declared.call.Call.{Call}
 use Rattle.disk_model.specs.declared.disk.Disk.{Ghosts}
-use Rattle.disk_model.specs.Calls.{Told, Tells, and_then, followed, made_by, Makes, LeavesOnly, IsImage}
+use Rattle.disk_model.specs.Calls.{Told, Tells, and_then, followed, made_by, LeavesOnly, IsImage}
 use Rattle.disk_model.specs.Causes.{Causes, Wants}
-use Rattle.disk_model.specs.Running.{Op, Asks, Reads, Does, Ending, Passed, Stopped, Wanted, refused_ending, ending, is_stopped, is_wanted, changes_in, Did, Came, GoesBy}
+use Rattle.disk_model.specs.Running.{Op, Asks, Reads, Does, Ending, Passed, Wanted, refused_ending, ending, is_stopped, is_wanted, changes_in, Did, Came}
 use Rattle.disk_model.specs.Sim.{Sim}
 use Rattle.disk_model.specs.Went.{changes, Rises, WentBy}
 use Rattle.disk_model.proofs.Telling.{leaves_only, told_before}
@@ -175,8 +175,10 @@ pub went_on : {D : Type 0} {disk : Ghosts D} {xs ys : Told → List Op} {old mid
 went_on {disk = disk} {xs = xs} {ys = ys} {old = old} {mid = mid} {now = now} {e = e} one two = record {
   honest = two.honest ∙ one.honest;
   all = λ is h. two.all is (one.honest ∙ h) ∙ ap (made_by (changes ys)) (one.all refl h) ∙ both_made (disk.told old) xs ys;
-  first = (count_of (changes xs) (disk.told old) + two.first.0,
-  λ h. two.first.1 (one.honest ∙ h) ∙ ap (made_by (λ t. take two.first.0 (changes ys t))) (one.all refl h) ∙ first_made (disk.told old) xs ys two.first.0);
+  first = (
+    count_of (changes xs) (disk.told old) + two.first.0,
+    λ h. two.first.1 (one.honest ∙ h) ∙ ap (made_by (λ t. take two.first.0 (changes ys t))) (one.all refl h) ∙ first_made (disk.told old) xs ys two.first.0,
+  );
   goes = all_go xs ys (disk.memory old) (disk.memory mid) (disk.memory now) e one.goes two.goes;
   faults = rises_on (disk.faults old) (disk.faults mid) (disk.faults now) (is_stopped e) (one.faults.kept refl) two.faults;
   wants = omega (arith, one.wants, two.wants);
