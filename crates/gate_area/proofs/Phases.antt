@@ -1,15 +1,15 @@
 -- Two operations one after the other.
-use Rattle.std.proofs.Common.{◌≡◌, ℕ, ◌+◌, ◌-◌, min, inl, inr, Bool, List, [], ◌∷◌, ◌++◌, length, take, Option, None, Some, zero, suc, refl, ap, sym, ◌∙◌, subst, append_assoc, arith}
+use Rattle.std.proofs.Common.{◌≡◌, ℕ, ◌+◌, ◌-◌, inl, inr, Bool, List, [], ◌∷◌, ◌++◌, length, take, Option, Some, zero, suc, refl, ap, sym, ◌∙◌, subst, arith}
 use Rattle.std.proofs.Math.Seq.{take-append-add}
 use Rattle.std.proofs.lemmas.Bool.{cases_lt}
-use Rattle.std.proofs.lemmas.List.{append-nil, take-append-le, take_all}
+use Rattle.std.proofs.lemmas.List.{take-append-le}
 use Rattle.disk_model.specs.declared.area.Area.{Area}
 use Rattle.disk_model.specs.declared.area.Area.TheVariants.{Journal0, Journal1, Check2, Check3}
 use Rattle.disk_model.specs.declared.areas.Areas.{Areas}
 use Rattle.disk_model.specs.declared.call.Call.{Call}
 use Rattle.disk_model.specs.declared.call.Call.TheVariants.{Sync}
 use Rattle.disk_model.specs.Areas.{bytes_of}
-use Rattle.disk_model.specs.Calls.{Told, Tells, and_then, followed, made_by, Makes, MakesFirst, LeavesOnly, IsImage, IsSettled, reads, kept}
+use Rattle.disk_model.specs.Calls.{Told, Tells, and_then, followed, LeavesOnly, IsImage, IsSettled, reads, kept}
 use Rattle.disk_model.proofs.Went.{and_then-and_then, and_none}
 use Rattle.disk_model.proofs.OnArea.{settled-image}
 use Rattle.disk_model.proofs.CrashLaws.{new_can}

@@ -1,7 +1,6 @@
 -- Where the calls of a gate find their place.
-use Rattle.std.proofs.Common.{◌≡◌, ℕ, ◌+◌, ◌<◌, ◌≤◌, min, Bool, true, List, [], ◌∷◌, length, take, Option, None, Some, Result, Ok, Err, OnOk, refl, ap, sym, ◌∙◌, arith, subst}
+use Rattle.std.proofs.Common.{◌≡◌, ℕ, ◌+◌, ◌<◌, ◌≤◌, min, Bool, List, [], ◌∷◌, length, Option, Some, Result, Ok, Err, OnOk, refl, ap, sym, ◌∙◌, arith}
 use Rattle.disk_model.specs.declared.area.Area.{Area}
-use Rattle.disk_model.specs.declared.call.Call.{Call}
 use Rattle.disk_model.specs.declared.call.Call.TheVariants.{Write, Cut, Sync}
 use Rattle.disk_model.specs.Calls.{Told, Tells, followed, area_bytes}
 use Rattle.disk_model.specs.Steps.{Put, Flush, after}

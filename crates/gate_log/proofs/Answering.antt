@@ -11,7 +11,7 @@ use Rattle.disk_model.specs.Running.{Passed}
 use Rattle.gate_area.specs.declared.pair.Pair.TheVariants.{Journal}
 use Rattle.gate_area.specs.declared.pair.Standing.TheVariants.{None as Fresh, At}
 use Rattle.gate_area.specs.declared.pair.SurveyFault.{SurveyFault}
-use Rattle.gate_area.specs.declared.pair.SurveyFault.TheVariants.{Disk as NoDisk, Damaged as Spoilt, Memory as NoMemory}
+use Rattle.gate_area.specs.declared.pair.SurveyFault.TheVariants.{Damaged as Spoilt}
 use Rattle.gate_area.specs.Standing.{answer_at, answer_of, Answers, stands}
 use Rattle.gate_log.specs.declared.fault.LogFault.{LogFault}
 use Rattle.gate_log.specs.declared.fault.LogFault.TheVariants.{Disk, Full, Memory}
@@ -19,7 +19,7 @@ use Rattle.gate_log.specs.Journal.{Log, Holds, IsFound, log_of, records_of, reco
 use Rattle.gate_log.specs.Moments.{IsWant, Finds, refused_as, surveyed_as}
 use Rattle.gate_log.specs.Operations.{log_ending}
 use Rattle.gate_log.specs.Records.{StandsFor}
-use Rattle.gate_log.proofs.Moves.{Judgement, e_area}
+use Rattle.gate_log.proofs.Moves.{Judgement}
 
 abbrev pub Found : Type 0
 Found = Result (List (List ℕ)) (Area × ℕ)

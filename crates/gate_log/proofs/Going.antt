@@ -1,6 +1,5 @@
 -- How each call on a log goes by its operations.
-use Rattle.std.proofs.Common.{◌≡◌, ◌⊎◌, ℕ, ◌+◌, ◌-◌, ◌<◌, ◌≤◌, inl, inr, Bool, true, false, if◌then◌else◌, List, [], ◌∷◌, ◌++◌, length, map, Option, None, Some, Result, Ok, Err, IsErrAnd, Vec, refl, ap, sym, ◌∙◌, subst}
-use Rattle.std.specs.declared.alloc.Global.{Global}
+use Rattle.std.proofs.Common.{◌≡◌, ◌⊎◌, ℕ, ◌+◌, ◌-◌, ◌<◌, ◌≤◌, inl, inr, if◌then◌else◌, List, [], ◌∷◌, ◌++◌, length, map, None, Some, Result, Ok, Err, IsErrAnd, refl, ap, sym, ◌∙◌, subst}
 use Rattle.std.proofs.lemmas.Bool.{lt-ltb, le-ltb}
 use Rattle.disk_model.specs.declared.area.Area.{Area}
 use Rattle.disk_model.specs.declared.area.Area.TheVariants.{Journal0}
@@ -18,10 +17,10 @@ use Rattle.gate_area.specs.declared.pair.Pair.TheVariants.{Journal}
 use Rattle.gate_area.specs.declared.pair.SurveyFault.{SurveyFault}
 use Rattle.gate_area.specs.declared.pair.SurveyFault.TheVariants.{Disk as NoDisk, Damaged as Spoilt, Memory as NoMemory}
 use Rattle.gate_area.specs.Gate.{retire_steps}
-use Rattle.gate_area.specs.Operations.{survey_ops, spoilt_ending, gate_ops, renew_ops, area_readings, readings}
+use Rattle.gate_area.specs.Operations.{survey_ops, spoilt_ending, gate_ops, renew_ops, readings}
 use Rattle.gate_area.specs.Standing.{Answers, answer_at, answer_of, other_of, stands}
 use Rattle.gate_log.specs.declared.fault.LogFault.{LogFault}
-use Rattle.gate_log.specs.declared.fault.LogFault.TheVariants.{Damaged, Memory}
+use Rattle.gate_log.specs.declared.fault.LogFault.TheVariants.{Memory}
 use Rattle.gate_log.specs.Journal.{Log}
 use Rattle.gate_log.specs.Moments.{refused_as, surveyed_as}
 use Rattle.gate_log.specs.Operations.{fault_ending, log_ending, append_ops, compact_ops, standing_ops, find_ops, open_ops}

@@ -6,11 +6,10 @@ use Rattle.disk_model.specs.declared.area.Area.TheVariants.{Journal0, Journal1, 
 use Rattle.disk_model.specs.declared.areas.Areas.{Areas}
 use Rattle.disk_model.specs.declared.call.Call.{Call}
 use Rattle.disk_model.specs.Areas.{bytes_of, same}
-use Rattle.disk_model.specs.Calls.{Told, and_then, area_bytes, reads, kept, IsImage, IsSettled}
-use Rattle.disk_model.specs.Steps.{CanLeave, after}
-use Rattle.disk_model.proofs.CrashLaws.{new_can}
+use Rattle.disk_model.specs.Calls.{Told, and_then, area_bytes, reads, IsImage, IsSettled}
+use Rattle.disk_model.specs.Steps.{after}
 use Rattle.disk_model.proofs.OnArea.{own-on, image-on, image-other}
-use Rattle.disk_model.proofs.Reading.{area_bytes-and_then, reads-bytes, reading-kept}
+use Rattle.disk_model.proofs.Reading.{area_bytes-and_then, reads-bytes}
 use Rattle.gate_area.specs.declared.pair.Pair.TheVariants.{Journal}
 use Rattle.gate_area.specs.declared.pair.Head.{Head}
 use Rattle.gate_area.specs.declared.pair.Head.TheVariants.{Closed, Spoilt, Open}

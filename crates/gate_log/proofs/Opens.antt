@@ -1,5 +1,5 @@
 -- What a disk tells and holds at an opening.
-use Rattle.std.proofs.Common.{◌≡◌, ℕ, Bool, List, [], ◌∷◌, Option, None, Some, Ok, ◌∙◌, sym, subst, arith}
+use Rattle.std.proofs.Common.{◌≡◌, ℕ, Bool, [], ◌∷◌, Option, None, Some, Ok, ◌∙◌, sym, subst, arith}
 use Rattle.disk_model.specs.declared.area.Area.TheVariants.{Journal0}
 use Rattle.disk_model.specs.declared.call.Call.TheVariants.{Sync}
 use Rattle.disk_model.specs.declared.disk.Disk.{Ghosts}

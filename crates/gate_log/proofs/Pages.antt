@@ -1,9 +1,7 @@
 -- Reading an area in pieces, and walking over its bytes.
-use Rattle.std.proofs.Common.{◌≡◌, ℕ, ◌+◌, ◌<◌, ◌≤◌, inl, List, [], ◌∷◌, ◌++◌, length, take, drop, Vec, Result, Ok, Err, suc, refl, ap, sym, ◌∙◌, subst, append_assoc, arith, length-take, length-append}
+use Rattle.std.proofs.Common.{◌≡◌, ℕ, ◌+◌, ◌<◌, ◌≤◌, inl, List, [], ◌∷◌, ◌++◌, drop, Vec, Result, Ok, Err, suc, refl, ap, sym, ◌∙◌, subst, append_assoc, arith}
 use Rattle.std.specs.declared.alloc.Global.{Global}
-use Rattle.std.proofs.Math.Seq.{take-add}
-use Rattle.std.proofs.lemmas.List.{append-nil, take_at}
-use Rattle.disk_model.specs.Causes.{GivesBytes}
+use Rattle.std.proofs.lemmas.List.{append-nil}
 use Rattle.disk_model.specs.declared.area.Area.{Area}
 use Rattle.gate_log.specs.declared.fault.LogFault.TheVariants.{Damaged}
 use Rattle.gate_log.specs.declared.walking.Gate.{Gate}

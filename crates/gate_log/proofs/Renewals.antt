@@ -19,7 +19,7 @@ use Rattle.disk_model.specs.Steps.{after}
 use Rattle.gate_area.specs.declared.pair.Pair.TheVariants.{Journal}
 use Rattle.gate_area.specs.declared.pair.Head.{Head}
 use Rattle.gate_area.specs.declared.pair.Head.TheVariants.{Closed, Spoilt, Open}
-use Rattle.gate_area.specs.Gate.{IsRetired, HasFront, FrontOrShort, OpenOrShut, OthersStay, RetireLeaves, FoundLeaves, retire_steps, retire_calls, gate_steps, gate_calls, renew_calls, IsClosed, RenewLeaves}
+use Rattle.gate_area.specs.Gate.{HasFront, FrontOrShort, OthersStay, retire_steps, retire_calls, gate_steps, gate_calls, renew_calls, IsClosed, RenewLeaves}
 use Rattle.gate_area.specs.Standing.{judged, standing, stands, head_in, head_of, generation_of, other_of}
 use Rattle.gate_area.proofs.Heads.{head-short, head-shut}
 use Rattle.gate_area.proofs.Pairs.{retire_retires, retire_settles}

@@ -1,13 +1,13 @@
 -- A log on a disk: the records that its pair of areas stands for, and the calls of each operation.
-use Rattle.std.specs.Prelude.{◌≡◌, ◌+◌, ◌-◌, ℕ, List, [], ◌∷◌, ◌++◌, length, Option, None, Some, Result, Ok, Err, ◌==◌, if◌then◌else◌}
+use Rattle.std.specs.Prelude.{◌≡◌, ◌+◌, ℕ, List, [], ◌∷◌, length, Option, None, Some, Result, Ok, Err, ◌==◌, if◌then◌else◌}
 use Rattle.disk_model.specs.declared.area.Area.{Area}
-use Rattle.disk_model.specs.declared.area.Area.TheVariants.{Journal0, Journal1, Check2, Check3}
+use Rattle.disk_model.specs.declared.area.Area.TheVariants.{Journal0}
 use Rattle.disk_model.specs.declared.areas.Areas.{Areas}
 use Rattle.disk_model.specs.Areas.{bytes_of}
 use Rattle.disk_model.specs.Calls.{Told, reads, IsSettled}
 use Rattle.gate_area.specs.declared.pair.Pair.TheVariants.{Journal}
 use Rattle.gate_area.specs.Standing.{stands, other_of}
-use Rattle.gate_log.specs.Records.{StandsFor, walk_of, end_of, base_of, behind_gate, area_body}
+use Rattle.gate_log.specs.Records.{StandsFor, walk_of, end_of, base_of}
 
 -- the damaged place of an area
 abbrev pub in_area : {T : Type 0} → Area → Result T ℕ → Result T (Area × ℕ)

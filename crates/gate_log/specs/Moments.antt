@@ -1,16 +1,14 @@
 -- What a crash leaves at each moment of an operation on a log, and why one is refused.
-use Rattle.std.specs.Prelude.{◌≡◌, ◌≢◌, ◌⊎◌, ◌<◌, ◌≤◌, ◌+◌, length, slice_index, MatchResult, IsErrOf, ℕ, List, Option, Some, Result, Ok, Err, OnOk, [], ◌∷◌}
+use Rattle.std.specs.Prelude.{◌≡◌, ◌⊎◌, ◌≤◌, MatchResult, IsErrOf, ℕ, List, Option, Some, Result, Ok, Err, OnOk, [], ◌∷◌}
 use Rattle.disk_model.specs.declared.area.Area.{Area}
 use Rattle.disk_model.specs.declared.area.Refused.{Refused}
 use Rattle.disk_model.specs.declared.area.Refused.TheVariants.{Failed, Memory as Wanting}
 use Rattle.disk_model.specs.declared.areas.Areas.{Areas}
 use Rattle.disk_model.specs.declared.call.Call.TheVariants.{Sync}
-use Rattle.disk_model.specs.Areas.{bytes_of}
 use Rattle.disk_model.specs.Calls.{Told, LeavesOnly, and_then}
 use Rattle.disk_model.specs.Causes.{Rose}
 use Rattle.gate_area.specs.declared.pair.SurveyFault.{SurveyFault}
 use Rattle.gate_area.specs.declared.pair.SurveyFault.TheVariants.{Disk as NoDisk, Damaged as Spoilt, Memory as NoMemory}
-use Rattle.gate_area.specs.Gate.{OthersStay, FrontOrShort}
 use Rattle.gate_log.specs.declared.fault.LogFault.{LogFault}
 use Rattle.gate_log.specs.declared.fault.LogFault.TheVariants.{Disk, Damaged, Full, Memory}
 use Rattle.gate_log.specs.Journal.{records_in}

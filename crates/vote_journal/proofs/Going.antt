@@ -1,6 +1,5 @@
 -- How each call on a journal goes by its operations.
 use Rattle.std.proofs.Common.{◌≡◌, ◌⊎◌, ℕ, ◌<◌, inl, inr, List, [], ◌∷◌, ◌++◌, length, Option, Some, Result, Ok, Err, IsErrAnd, refl, ap, sym, ◌∙◌, subst, arith}
-use Rattle.std.proofs.lemmas.List.{append-nil}
 use Rattle.mrp_types.specs.declared.id.NodeId.{NodeId}
 use Rattle.disk_model.specs.declared.area.Area.{Area}
 use Rattle.disk_model.specs.declared.disk.Disk.{Ghosts}
@@ -23,7 +22,7 @@ use Rattle.vote_journal.specs.declared.fault.JournalFault.TheVariants as journal
 use Rattle.vote_journal.specs.declared.fault.OpenFault.{OpenFault}
 use Rattle.vote_journal.specs.declared.fault.OpenFault.TheVariants as opens
 use Rattle.vote_journal.specs.Faults.{opened_as, refused_as}
-use Rattle.vote_journal.specs.Journal.{Journal, state_of, opened_state, epoch_record, compact_record}
+use Rattle.vote_journal.specs.Journal.{Journal, state_of, opened_state, epoch_record}
 use Rattle.vote_journal.specs.Operations.{unopened_ending, open_ending, unwritten_ending, journal_ending, record_ops, compaction_ops, epoch_ops, state_ops, judged_ops, opening_ops}
 use Rattle.vote_journal.specs.Spelling.{record_bytes, first_bytes}
 

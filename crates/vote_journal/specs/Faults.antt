@@ -1,9 +1,6 @@
 -- Why an operation on a journal is refused, by why one on its log is.
-use Rattle.std.specs.Prelude.{◌≡◌, ◌⊎◌, ◌≤◌, ℕ, IsErrOf, OnOk, Result, Ok, Err}
+use Rattle.std.specs.Prelude.{◌≡◌, ◌⊎◌, ℕ, Result, Ok, Err}
 use Rattle.mrp_types.specs.Reading as reading
-use Rattle.mrp_types.specs.declared.id.NodeId.{NodeId}
-use Rattle.disk_model.specs.declared.area.Area.{Area}
-use Rattle.disk_model.specs.Causes.{Rose}
 use Rattle.command_codec.specs.declared.fault.CodecFault.{CodecFault}
 use Rattle.command_codec.specs.declared.fault.CodecFault.TheVariants as fields
 use Rattle.gate_log.specs.declared.fault.LogFault.{LogFault}

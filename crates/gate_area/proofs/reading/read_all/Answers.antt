@@ -1,4 +1,4 @@
-use Rattle.std.proofs.Common.{◌≡◌, ℕ, ◌+◌, ◌*◌, ◌-◌, ◌/◌, ◌<◌, ◌≤◌, min, subst, ◌++◌, ◌∙◌, ap, take, length, arith, length-take, length-append, add-one, sym, Some, List, refl}
+use Rattle.std.proofs.Common.{◌≡◌, ℕ, ◌*◌, ◌-◌, ◌≤◌, min, subst, ◌++◌, ◌∙◌, ap, take, length, arith, length-take, length-append, sym, List, refl}
 use Rattle.disk_model.specs.Calls.{area_bytes}
 use Rattle.disk_model.specs.Causes.{GivesBytes}
 use Rattle.gate_area.proofs.Pages.{next_piece, last_piece, page_again, read_on, all_read, more_read, others, pieces_read}

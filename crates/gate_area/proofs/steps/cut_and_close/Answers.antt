@@ -1,5 +1,5 @@
 use Rattle.std.proofs.Common.{[], ◌∷◌, refl, map}
-use Rattle.disk_model.specs.declared.call.Call.TheVariants.{Write, Cut, Sync}
+use Rattle.disk_model.specs.declared.call.Call.TheVariants.{Write, Sync}
 use Rattle.disk_model.specs.Running.{Does}
 use Rattle.disk_model.proofs.Went.{went_call, went_asked, went_on, went_part, went_refused, never_passes}
 use Rattle.gate_area.specs.Gate.{retire_calls}

@@ -1,6 +1,5 @@
-use Rattle.std.proofs.Common.{◌≡◌, ◌∙◌, sym, ap, refl, subst, [], List, ℕ, Ok, OnOk, Some, None}
+use Rattle.std.proofs.Common.{◌≡◌, ◌∙◌, sym, ap, refl, subst, [], List, ℕ, Ok, Some, None}
 use Rattle.disk_model.specs.declared.area.Area.TheVariants.{Journal0}
-use Rattle.disk_model.specs.declared.area.Area.{Area}
 use Rattle.disk_model.specs.Areas.{bytes_of}
 use Rattle.disk_model.specs.Calls.{Told, area_bytes, reads}
 use Rattle.disk_model.proofs.Reading.{reads-bytes}

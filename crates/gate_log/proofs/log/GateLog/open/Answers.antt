@@ -1,8 +1,8 @@
-use Rattle.std.proofs.Common.{◌≡◌, ◌∙◌, ap, subst, inr, ℕ, List, [], ◌∷◌, IfOk, OnOk, Some}
+use Rattle.std.proofs.Common.{◌≡◌, subst, inr, [], ◌∷◌, IfOk}
 use Rattle.disk_model.specs.declared.areas.Areas.{Areas}
 use Rattle.disk_model.specs.declared.call.Call.TheVariants.{Sync}
 use Rattle.disk_model.specs.Calls.{LeavesOnly, and_then, reads}
-use Rattle.disk_model.proofs.Reading.{area_bytes-and_then, reads_synced}
+use Rattle.disk_model.proofs.Reading.{reads_synced}
 use Rattle.gate_area.specs.declared.pair.Pair.TheVariants.{Journal}
 use Rattle.gate_area.specs.Standing.{stands}
 use Rattle.gate_log.specs.Journal.{Holds, IsFound, IsLogOf, records_in}
