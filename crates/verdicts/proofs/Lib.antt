@@ -1,1 +1,2 @@
 mod AskedLine
+mod Cuts

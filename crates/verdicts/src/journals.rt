@@ -5,7 +5,7 @@ ghost use Rattle.disk_model.specs.Calls.{area_bytes};
 ghost use Rattle.disk_model.specs.declared.area.Area.TheVariants.{Journal0, Journal1};
 ghost use Rattle.verdicts.specs.Texts.{state_text as state_text_lem, areas_text as areas_text_lem};
 
-use crate::bytes_of::bytes_of_hex;
+use crate::cases::{bytes_of_hex, cut};
 use crate::faults::{open_fault, said, said_in_hex};
 use disk_model::{Area, SimDisk};
 use mrp_types::{Memory, NodeId, Octets, RingId};
@@ -19,7 +19,7 @@ const WIDE: u64 = 1_048_576;
 
 /// The bytes of both areas of a journal; none where the case has no two such texts. `-` is an empty area.
 pub fn areas_of(alloc: Global, case: &str) -> Result<Option<(Vec<u8>, Vec<u8>)>, Memory> {
-    let Some((first, second)) = case.split_once(' ') else {
+    let Some((first, second)) = cut(case) else {
         return Ok(None);
     };
     let (Some(first), Some(second)) = (area_of(alloc, first)?, area_of(alloc, second)?) else {

@@ -20,7 +20,7 @@
 //! `no case` where the line is none. Empty lines, lines that begin with `#`, and texts are no cases, and nothing is printed of them.
 #![tactic(auto)]
 
-mod bytes_of;
+mod cases;
 mod faults;
 mod journals;
 mod readers;

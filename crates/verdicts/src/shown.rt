@@ -114,7 +114,7 @@ fn put_all<T: Shown>(out: &mut Octets, items: &[T]) -> Result<(), Memory>
 }
 
 /// All that a deployment says.
-pub fn shown(alloc: Global, deployment: &Deployment) -> Result<Octets, Memory>
+pub fn deployment_text(alloc: Global, deployment: &Deployment) -> Result<Octets, Memory>
     ensures { IfOk result (λ text. text ≡ shown_text deployment.now) }
 {
     let mut text = said(alloc, "numbers")?;

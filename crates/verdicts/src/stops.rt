@@ -2,6 +2,7 @@
 
 ghost use Rattle.std.specs.Prelude.{◌≡◌};
 
+use crate::cases::cut;
 use crate::faults::said;
 use disk_model::{Area, Disk, Refused, SimDisk};
 use gate_area::{Pair, SurveyFault, found, open_gate, read_all, renew, retire, survey};
@@ -74,7 +75,7 @@ impl From<OpenFault> for Spoilt {
 /// How the call of this name ends once the fault is set, whether a fuse has stopped it, and how many reads and how many
 /// syncs pass then.
 pub fn stops_verdict(alloc: Global, case: &str) -> Result<Octets, Memory> {
-    let Some((call, fault)) = case.split_once(' ') else {
+    let Some((call, fault)) = cut(case) else {
         return said(alloc, "no case");
     };
     let Some(fault) = fault_of(fault) else {
@@ -87,7 +88,7 @@ pub fn stops_verdict(alloc: Global, case: &str) -> Result<Octets, Memory> {
 }
 
 fn fault_of(text: &str) -> Option<Fault> {
-    let (word, number) = text.split_once(' ')?;
+    let (word, number) = cut(text)?;
     let k = number.parse::<u32>().ok()?;
     match word {
         "fuse" => Some(Fault::Fuse(k)),

@@ -1,13 +1,20 @@
 //! What a reader answers to a case, in words.
 
-use crate::bytes_of::{bytes_of_hex, padded_text, text_of_config, with_control};
+ghost use Rattle.std.specs.Prelude.{◌≡◌, codes};
+ghost use Rattle.command_codec.specs.Grammar.{batch_of, command_of, reply_of};
+ghost use Rattle.frames.specs.Grammar.{read_of as frame_of};
+ghost use Rattle.mrp_config.specs.Walk.{read_of as config_of};
+ghost use Rattle.verdicts.specs.Cases.{Tells, TellsOf};
+ghost use Rattle.verdicts.specs.Texts.{codec_fault_text, config_fault_text, frame_fault_text, verdict_of};
+
+use crate::cases::{bytes_of_hex, cut, padded_text, text_of_config, with_control};
 use crate::faults::said;
 use crate::journals::{areas_of, compacted, found, opened};
 use crate::readers::{
     asked_verdict, bytes_verdict, config_verdict, drawn_text, events_verdict, line_verdict,
 };
 use crate::reads::reads_verdict;
-use crate::shown::shown;
+use crate::shown::deployment_text;
 use crate::stops::stops_verdict;
 use crate::texts::Texts;
 use mrp_config::Deployment;
@@ -15,8 +22,14 @@ use mrp_types::{Memory, Octets};
 use std::alloc::Global;
 
 /// The verdict on a case: `ok`, a fault, or `no case`.
-pub fn verdict(alloc: Global, texts: &Texts, case: &str) -> Result<Octets, Memory> {
-    let Some((word, rest)) = case.split_once(' ') else {
+pub fn verdict(alloc: Global, texts: &Texts, case: &str) -> Result<Octets, Memory>
+    ensures frame { TellsOf (codes "frame") case.now (λ bytes. verdict_of frame_fault_text (frame_of bytes)) result }
+    ensures command { TellsOf (codes "command") case.now (λ bytes. verdict_of codec_fault_text (command_of bytes)) result }
+    ensures batch { TellsOf (codes "batch") case.now (λ bytes. verdict_of codec_fault_text (batch_of bytes)) result }
+    ensures reply { TellsOf (codes "reply") case.now (λ bytes. verdict_of codec_fault_text (reply_of bytes)) result }
+    ensures toml { TellsOf (codes "toml") case.now (λ bytes. verdict_of config_fault_text (config_of bytes)) result }
+{
+    let Some((word, rest)) = cut(case) else {
         return said(alloc, "no case");
     };
     match word {
@@ -25,7 +38,7 @@ pub fn verdict(alloc: Global, texts: &Texts, case: &str) -> Result<Octets, Memor
         "line" => line_verdict(alloc, with_control(alloc, rest)?.as_bytes()),
         "events" | "asked" | "drawn" => over_deployment(alloc, texts, word, rest),
         "shows" => match deployment_named(alloc, texts, rest) {
-            Some(deployment) => shown(alloc, &deployment.copy(alloc)?),
+            Some(deployment) => deployment_text(alloc, &deployment.copy(alloc)?),
             None => said(alloc, "no case"),
         },
         "journal" | "opened" | "compacted" => match areas_of(alloc, rest)? {
@@ -34,10 +47,21 @@ pub fn verdict(alloc: Global, texts: &Texts, case: &str) -> Result<Octets, Memor
         },
         "stops" => stops_verdict(alloc, rest),
         "reads" => reads_verdict(alloc, rest),
-        _ => match bytes_of_hex(alloc, rest)? {
-            Some(bytes) => bytes_verdict(alloc, word, bytes.as_slice()),
-            None => said(alloc, "no case"),
-        },
+        _ => of_hex(alloc, word, rest),
+    }
+}
+
+// Of bytes in hexadecimal.
+fn of_hex(alloc: Global, word: &str, digits: &str) -> Result<Octets, Memory>
+    ensures frame { word.now ≡ codes "frame" → Tells digits.now (λ bytes. verdict_of frame_fault_text (frame_of bytes)) result }
+    ensures command { word.now ≡ codes "command" → Tells digits.now (λ bytes. verdict_of codec_fault_text (command_of bytes)) result }
+    ensures batch { word.now ≡ codes "batch" → Tells digits.now (λ bytes. verdict_of codec_fault_text (batch_of bytes)) result }
+    ensures reply { word.now ≡ codes "reply" → Tells digits.now (λ bytes. verdict_of codec_fault_text (reply_of bytes)) result }
+    ensures toml { word.now ≡ codes "toml" → Tells digits.now (λ bytes. verdict_of config_fault_text (config_of bytes)) result }
+{
+    match bytes_of_hex(alloc, digits)? {
+        Some(bytes) => bytes_verdict(alloc, word, bytes.as_slice()),
+        None => said(alloc, "no case"),
     }
 }
 
@@ -64,7 +88,7 @@ fn deployment_named(alloc: Global, texts: &Texts, name: &str) -> Option<Deployme
 
 // Of events, of a client's command, or of a drawn schedule, over the deployment that the case names first.
 fn over_deployment(alloc: Global, texts: &Texts, word: &str, case: &str) -> Result<Octets, Memory> {
-    let Some((name, text)) = case.split_once(' ') else {
+    let Some((name, text)) = cut(case) else {
         return said(alloc, "no case");
     };
     let Some(deployment) = deployment_named(alloc, texts, name) else {
@@ -81,7 +105,7 @@ fn over_deployment(alloc: Global, texts: &Texts, word: &str, case: &str) -> Resu
 }
 
 fn drawn_verdict(alloc: Global, deployment: &Deployment, case: &str) -> Result<Octets, Memory> {
-    let Some((seed, events)) = case.split_once(' ') else {
+    let Some((seed, events)) = cut(case) else {
         return said(alloc, "no case");
     };
     let (Ok(seed), Ok(events)) = (seed.parse::<u64>(), events.parse::<u32>()) else {

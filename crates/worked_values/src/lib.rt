@@ -2,6 +2,9 @@
 //! what these definitions give, so it gives these values.
 #![tactic(auto)]
 
+pub mod codecs;
+pub mod records;
+pub mod routes;
 pub mod tables;
 pub mod tuples;
 pub mod votes;
