@@ -3,10 +3,10 @@ use Rattle.command_codec.specs.Fields.{u16_bytes, u64_bytes}
 use Rattle.world.specs.System.{trace}
 use Rattle.world.proofs.rows.each_size.Goals as goal
 
-pub lines : goal.lines
+pub returns-clause-lines : goal.returns-clause-lines
 unfolding trace u16_bytes u64_bytes lib.Count.ones
-lines c = refl
+returns-clause-lines c = refl
 
-pub frames : goal.frames
+pub returns-clause-frames : goal.returns-clause-frames
 unfolding trace u16_bytes u64_bytes lib.Count.ones
-frames c = refl
+returns-clause-frames c = refl
