@@ -7,6 +7,7 @@ ghost use Rattle.schedule.specs.Reading.{within, any_number, client_word, node_w
 use crate::fields::{byte_of_word, bytes_in, client_of, logs_of_word, node_of, number_in};
 use command_codec::Logs;
 use mrp_config::Deployment;
+use mrp_types::limits::LAST_LOG;
 use mrp_types::{LogId, Octets};
 use std::alloc::Global;
 use text_lines::{TextFault, Words, number_of_word};

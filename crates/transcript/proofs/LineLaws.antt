@@ -27,7 +27,6 @@ use Rattle.transcript.specs.Reading.{id_at, count_at, tuple_at, hex_at, value_at
 use Rattle.transcript.proofs.FieldLaws.{id, count, tuple, tuple_is_no_dash, party, party_is_no_none, bytes, value}
 use Rattle.text_lines.proofs.WordLaws.{Words, Took, Entry, AreEntries, alone, spell_both, IsBoth, two, viewed_was, given_was, keyed_was, none_low, lacks_low}
 use Rattle.transcript.proofs.WordLaws.{done, done_is, one_words, unless_was}
-use Rattle.text_lines.proofs.WordsWere.{end_was}
 
 -- ---- fields
 
@@ -319,6 +318,10 @@ spelled_words line is = by (line_words line) refl (lacks 32 (lit< tt) line is)
 
 line_read : (line : Line) → IsLine line → line_in (line_words line) ≡ Ok line
 line_read line is = rw (kind_read line is) refl
+
+end_was : (words : List (List ℕ)) (x : Unit {0}) → end_at words ≡ Ok x → words ≡ []
+end_was [] x h = refl
+end_was (word ∷ words) x h = absurd cc
 
 -- the words were those of the line, and the line may be
 record Was (words : List (List ℕ)) (line : Line) : Type 0 where

@@ -8,7 +8,7 @@ use Rattle.mrp_types.specs.declared.value.Value.TheVariants.{Skip, Batch}
 use Rattle.range_map.specs.Entries.{value_at, IsIncreasingFrom, entries_from, spread_over, IsNextHeld, IsRunRound}
 use Rattle.range_map.proofs.RunsLemmas.{within-true, within-below, within-above}
 use Rattle.range_map.proofs.SetLemmas.{le-true, le-false}
-use Rattle.range_map.proofs.EntryLemmas.{increasing_weaker, same_entries, value_at-spread_over, increasing_spread_over, value_at-entries_from, increasing_entries_from, value_later}
+use Rattle.range_map.proofs.EntryLemmas.{increasing_weaker, same_entries, value_at-spread_over, increasing_spread_over, value_at-entries_from, increasing_entries_from, value_later, value_here, eq-true, eq-from}
 use Rattle.mrp_types.proofs.TestLemmas.{both}
 use Rattle.vote_state.specs.declared.cast.Cast.{Cast}
 use Rattle.mrp_types.specs.declared.voted.Voted.{Voted}
