@@ -52,8 +52,18 @@ commands =
 -- a deployment whose first ring has a round of 1,024, of which only the rounds matter here
 abbrev pub long_round : Config
 long_round = record {
-  m = 3; lambda = 0; delta = 1; resend = 4; suspect = 16; attempt = 8; checkpoint = 2; trim = 8; window = 16; journal = 1048576;
-  nodes = []; clients = [];
+  m = 3;
+  lambda = 0;
+  delta = 1;
+  resend = 4;
+  suspect = 16;
+  attempt = 8;
+  checkpoint = 2;
+  trim = 8;
+  window = 16;
+  journal = 1048576;
+  nodes = [];
+  clients = [];
   rings = record { id = ring 0; acceptors = []; m = 1024 } ∷ record { id = ring 1; acceptors = []; m = 1 } ∷ [];
   partitions = [];
 }
