@@ -5,8 +5,10 @@ use Rattle.command_codec.specs.declared.fault.CodecFault.{CodecFault}
 use Rattle.command_codec.specs.declared.fault.CodecFault.TheVariants.{Short, BadKind, BadField}
 use Rattle.vote_state.specs.declared.change.Change.{Change}
 use Rattle.vote_state.specs.declared.change.Change.TheVariants.{Epoch, Promise, Vote, Trim}
+use Rattle.vote_state.specs.State.{nothing_kept, state_changes, taken}
 use Rattle.vote_journal.specs.Grammar.{changes_of, first_of}
-use Rattle.worked_values.specs.Ids.{ring}
+use Rattle.vote_journal.specs.Spelling.{first_bytes}
+use Rattle.worked_values.specs.Ids.{node, ring}
 use Rattle.worked_values.specs.Votes.{skip}
 
 -- so many zeros, and then a byte: a number whose first bytes are 0
@@ -23,6 +25,14 @@ three_changes_bytes =
     2 ∷ 15 ∷ zeros_then 7 3 ++
     3 ∷ 15 ∷ zeros_then 7 3 ++ zeros_then 7 0 ++ zeros_then 5 1 ++ 0 ∷ 0 ∷ 0 ∷ 1 ∷ 0 ∷
     4 ∷ 15 ∷ zeros_then 7 7
+
+-- a vote for ten instances of ring 1, and a later one within them
+abbrev pub two_votes : List Change
+two_votes = Vote (ring 1) (skip 0 10 3) ∷ Vote (ring 1) (skip 4 6 4) ∷ []
+
+-- what a compaction writes of node 0 after an opening and these changes
+abbrev pub compacted : List Change → List ℕ
+compacted changes = first_bytes (node 0) (state_changes (taken (Epoch 1 ∷ changes) nothing_kept))
 
 -- a vote of ballot 3 from instance 5 up to this one, and the bytes behind
 abbrev pub vote_up_to : ℕ → List ℕ → List ℕ

@@ -1,21 +1,34 @@
 //! Records of a journal, both ways, and their first faults.
 
-ghost use Rattle.std.specs.Prelude.{◌≡◌, [], ◌∷◌, true, false, map, Ok, Err};
+ghost use Rattle.std.specs.Prelude.{◌≡◌, [], ◌∷◌, true, false, length, map, Ok, Err};
 ghost use Rattle.std.specs.List.{AllByRecursion};
 ghost use Rattle.command_codec.specs.declared.fault.CodecFault.TheVariants.{BadField};
 ghost use Rattle.vote_journal.specs.Epochs.{epochs_rise};
 ghost use Rattle.vote_journal.specs.Grammar.{changes_of, first_of};
+ghost use Rattle.vote_journal.specs.Journal.{opened_end};
 ghost use Rattle.vote_journal.specs.Spelling.{first_bytes, record_bytes};
+ghost use Rattle.vote_state.specs.State.{nothing_kept};
 ghost use Rattle.vote_state.specs.declared.change.Change.TheVariants.{Epoch, Promise, Vote};
 ghost use Rattle.mrp_types.specs.declared.value.Value.TheVariants.{Batch};
 ghost use Rattle.worked_values.specs.Ids.{node, ring};
-ghost use Rattle.worked_values.specs.Records.{IsNoFirst, IsNoRecord, no_firsts, no_records, three_changes, three_changes_bytes, vote_up_to};
+ghost use Rattle.worked_values.specs.Records.{IsNoFirst, IsNoRecord, compacted, no_firsts, no_records, three_changes, three_changes_bytes, two_votes, vote_up_to};
 
 /// Records as they are written.
 #[tactic(auto, unfolding(command_codec::specs::Fields::u16_bytes, command_codec::specs::Fields::u32_bytes, command_codec::specs::Fields::u64_bytes))]
 pub fn written_records()
     ensures first { first_bytes (node 0) (Epoch 1 ∷ []) ≡ 6 ∷ 0 ∷ 0 ∷ 0 ∷ 2 ∷ 5 ∷ 0 ∷ 1 ∷ 0 ∷ 0 ∷ 0 ∷ 1 ∷ [] }
     ensures later { record_bytes three_changes ≡ three_changes_bytes }
+{}
+
+/// How long the area is after a first opening, and how long records are: of a promise and of two votes, and what a compaction writes
+/// behind each; the two votes are three ranges then.
+#[tactic(auto, unfolding(command_codec::specs::Fields::u16_bytes, command_codec::specs::Fields::u32_bytes, command_codec::specs::Fields::u64_bytes, range_map::specs::Entries::spread_over, vote_state::specs::Ranges::ranges_of))]
+pub fn lengths_of_records()
+    ensures opened { opened_end (node 0) [] nothing_kept ≡ 34 }
+    ensures promise { length (record_bytes (Promise (ring 1) 4 ∷ [])) ≡ 15 }
+    ensures promised { length (compacted (Promise (ring 1) 4 ∷ [])) ≡ 22 }
+    ensures votes { length (record_bytes two_votes) ≡ 63 }
+    ensures voted { length (compacted two_votes) ≡ 99 }
 {}
 
 /// Records of both formats as they are read.
