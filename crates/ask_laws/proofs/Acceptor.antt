@@ -28,27 +28,27 @@ use Rattle.protocol.specs.Acceptor.{idle_below, promised_part, promises, votes_f
 use Rattle.ask_laws.specs.Carried.{ValueCarries, VotesCarry, RangesCarry, RoleCarries, PartCarries, ChangeCarries, LineCarries, BodyCarries, SentCarries, EffectsCarry}
 use Rattle.ask_laws.proofs.Lists.{appended, filtered, fronted, range_all, ranges_all, learned_all}
 
-module _ (Is : ℕ → Entry → Type 0) where
+module _ (Is : ℕ → Entry → Type 0) (Valid : Type 0) where
   -- ---- frames
 
-  pub sends_to_carry : (own to : NodeId) (b : Body) → BodyCarries Is b → (t : Bool) → AllByRecursion (SentCarries Is) (if t then [] else sent_by own to b ∷ [])
+  pub sends_to_carry : (own to : NodeId) (b : Body) → BodyCarries Is Valid b → (t : Bool) → AllByRecursion (SentCarries Is Valid) (if t then [] else sent_by own to b ∷ [])
   sends_to_carry own to b is true = tt
   sends_to_carry own to b is false = (is, tt)
 
-  pub sends_carry : (ring : Ring) (to : Option NodeId) (b : Body) → BodyCarries Is b → AllByRecursion (SentCarries Is) (sends ring to b)
+  pub sends_carry : (ring : Ring) (to : Option NodeId) (b : Body) → BodyCarries Is Valid b → AllByRecursion (SentCarries Is Valid) (sends ring to b)
   sends_carry ring None b is = tt
   sends_carry ring (Some to) b is = sends_to_carry ring.own to b is (to.0 == ring.own.0 || is_beyond b)
 
-  pub each_carries : {T : Type 0} (h : T → List Sent) → ((x : T) → AllByRecursion (SentCarries Is) (h x)) → (xs : List T) → AllByRecursion (SentCarries Is) (flat_map h xs)
+  pub each_carries : {T : Type 0} (h : T → List Sent) → ((x : T) → AllByRecursion (SentCarries Is Valid) (h x)) → (xs : List T) → AllByRecursion (SentCarries Is Valid) (flat_map h xs)
   each_carries h says [] = tt
-  each_carries h says (x ∷ xs) = appended (SentCarries Is) (h x) (flat_map h xs) (says x) (each_carries h says xs)
+  each_carries h says (x ∷ xs) = appended (SentCarries Is Valid) (h x) (flat_map h xs) (says x) (each_carries h says xs)
 
-  pub sends_each_carry : (ring : Ring) (nodes : List NodeId) (b : Body) → BodyCarries Is b → AllByRecursion (SentCarries Is) (sends_each ring nodes b)
+  pub sends_each_carry : (ring : Ring) (nodes : List NodeId) (b : Body) → BodyCarries Is Valid b → AllByRecursion (SentCarries Is Valid) (sends_each ring nodes b)
   sends_each_carry ring nodes b is = each_carries (λ node. sends ring (Some node) b) (λ node. sends_carry ring (Some node) b is) nodes
 
   module _ (ring : Ring) where
     abbrev pub Made : Effects → Type 0
-    Made effects = EffectsCarry Is ring.id.0 effects
+    Made effects = EffectsCarry Is Valid ring.id.0 effects
 
     -- ---- what was made goes on
 
@@ -58,8 +58,8 @@ module _ (Is : ℕ → Entry → Type 0) where
     pub part_made : (part : Part) (effects : Effects) → PartCarries Is ring.id.0 part → Made effects → Made (with_part part effects)
     part_made part effects is m = record { part = is; changes = m.changes; frames = m.frames; lines = m.lines; learned = m.learned }
 
-    pub frames_made : (frames : List Sent) (effects : Effects) → AllByRecursion (SentCarries Is) frames → Made effects → Made (with_frames frames effects)
-    frames_made frames effects is m = record { part = m.part; changes = m.changes; frames = appended (SentCarries Is) effects.frames frames m.frames is; lines = m.lines; learned = m.learned }
+    pub frames_made : (frames : List Sent) (effects : Effects) → AllByRecursion (SentCarries Is Valid) frames → Made effects → Made (with_frames frames effects)
+    frames_made frames effects is m = record { part = m.part; changes = m.changes; frames = appended (SentCarries Is Valid) effects.frames frames m.frames is; lines = m.lines; learned = m.learned }
 
     pub line_made : (line : Line) (effects : Effects) → LineCarries Is line → Made effects → Made (with_line line effects)
     line_made line effects is m = record { part = m.part; changes = m.changes; frames = m.frames; lines = appended (LineCarries Is) effects.lines (line ∷ []) m.lines (is, tt); learned = m.learned }
@@ -143,7 +143,7 @@ module _ (Is : ℕ → Entry → Type 0) where
 
     -- ---- Prepare
 
-    promise_carries : (ballot lo : ℕ) (kept : RingState) → VotesCarry Is ring.id.0 kept.votes → BodyCarries Is (promise_of ring ballot lo kept)
+    promise_carries : (ballot lo : ℕ) (kept : RingState) → VotesCarry Is ring.id.0 kept.votes → BodyCarries Is Valid (promise_of ring ballot lo kept)
     promise_carries ballot lo kept is =
         fronted (λ (v : Voted). ValueCarries Is ring.id.0 v.value) vote_size page_room (ranges_of (entries_from (max lo kept.trim) kept.votes))
         (ranges_all (ValueCarries Is ring.id.0) (entries_from (max lo kept.trim) kept.votes)
@@ -176,7 +176,7 @@ module _ (Is : ℕ → Entry → Type 0) where
     pub decides_or_forwards_made : (link : Link) (mask : ℕ) (vote : Voted) (effects : Effects) → ValueCarries Is ring.id.0 vote.value → Made effects → Made (decides_or_forwards ring link mask vote effects)
     decides_or_forwards_made link mask vote effects is m = by (nat_le (majority_of ring) (count_ones mask))
       where
-        first : (t : Bool) → AllByRecursion (SentCarries Is)
+        first : (t : Bool) → AllByRecursion (SentCarries Is Valid)
             (if t then sends ring (next_member ring link) (Decide ring.id vote.lo vote.hi (length ring.members - 2) vote.value) else [])
         first true = sends_carry ring (next_member ring link) (Decide ring.id vote.lo vote.hi (length ring.members - 2) vote.value) is
         first false = tt
@@ -215,7 +215,7 @@ module _ (Is : ℕ → Entry → Type 0) where
     unfolding fetches
     fetches_made part from lo is = by (nat_lt lo part.kept.trim)
       where
-        tells : (ranges : List Decided) → RangesCarry Is ring.id.0 ranges → AllByRecursion (SentCarries Is) (tells_ranges ring from ranges)
+        tells : (ranges : List Decided) → RangesCarry Is ring.id.0 ranges → AllByRecursion (SentCarries Is Valid) (tells_ranges ring from ranges)
         tells [] all = tt
         tells (range ∷ ranges) all = sends_carry ring (Some from) (Chosen ring.id (range ∷ ranges)) all
 

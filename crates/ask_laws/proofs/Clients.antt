@@ -11,6 +11,7 @@ use Rattle.command_codec.specs.declared.reply.Reply.{Reply}
 use Rattle.command_codec.specs.Grammar.{reply_of}
 use Rattle.command_codec.specs.Spelling.{command_bytes}
 use Rattle.mrp_config.specs.declared.tables.PartitionTable.{PartitionTable}
+use Rattle.mrp_config.specs.Valid.{IsValid}
 use Rattle.mrp_config.specs.Config.{Config, ring_at, partition_at}
 use Rattle.mrp_config.specs.Routing.{concerned_of, route_of, is_concerned}
 use Rattle.frames.specs.declared.body.Body.{Body}
@@ -53,7 +54,7 @@ keeps_more config old new c view more k = record { id = k.id; first = k.first; a
 -- what it makes of an event
 pub record EffectsKeep (config : Config) (asked : ℕ → ℕ → Option Command) (c : ℕ) (effects : ClientEffects) : Type 0 where
   pub client : ClientKeeps config asked c effects.client
-  pub frames : AllByRecursion (SentCarries (IsAsked config asked)) effects.frames
+  pub frames : AllByRecursion (SentCarries (IsAsked config asked) (IsValid config)) effects.frames
   pub lines : AllByRecursion (LineCarries (IsAsked config asked)) effects.lines
 
 module _ (config : Config) (asked : ℕ → ℕ → Option Command) (c : ℕ) where
@@ -77,10 +78,10 @@ module _ (config : Config) (asked : ℕ → ℕ → Option Command) (c : ℕ) wh
     entry = record { asked = is.some; numbered = is.numbered; short = short_command a.command is.valid.valid };
   }
 
-  pub submits_carry : (view : ClientView) (a : Asked) → view.id ≡ record { 0 = c } → Sends a → AllByRecursion (SentCarries (IsAsked config asked)) (submits config view a)
+  pub submits_carry : (view : ClientView) (a : Asked) → view.id ≡ record { 0 = c } → Sends a → AllByRecursion (SentCarries (IsAsked config asked) (IsValid config)) (submits config view a)
   submits_carry view a own is = by (acceptor_at a.tries (acceptors_of (ring_at config.rings a.ring.0)))
     where
-      by : (o : Option NodeId) → AllByRecursion (SentCarries (IsAsked config asked)) (submit_to view a o)
+      by : (o : Option NodeId) → AllByRecursion (SentCarries (IsAsked config asked) (IsValid config)) (submit_to view a o)
       by None = tt
       by (Some node) = (
         (refl, refl, subst (λ (id : ClientId). IsAsked config asked a.ring.0 (record { client = id; seq = a.seq; command = command_bytes a.command })) (sym own) (entry_asked a is)),

@@ -6,25 +6,10 @@ use Rattle.hex.specs.Hex.{IsBytes}
 use Rattle.mrp_types.specs.declared.value.Entry.{Entry}
 use Rattle.command_codec.specs.Fields.{u16_bytes, u64_bytes, string16}
 use Rattle.command_codec.specs.Spelling.{entry_bytes, batch_bytes}
+use Rattle.state_laws.specs.States.{AreBytes}
+use Rattle.state_laws.proofs.Bytes.{bytes_each, u16_are, u64_are}
 use Rattle.state_laws.proofs.Examples.{bytes_by}
 use Rattle.ask_laws.proofs.Lists.{appended}
-
--- ---- bytes
-
-abbrev pub AreBytes : List ℕ → Type 0
-AreBytes bytes = AllByRecursion (λ (b : ℕ). b < 256) bytes
-
-pub bytes_each : (bytes : List ℕ) → IsBytes bytes → AreBytes bytes
-bytes_each [] is = tt
-bytes_each (b ∷ bytes) is = (is 0, bytes_each bytes (λ i. is (suc i)))
-
-u16_are : (n : ℕ) → AreBytes (u16_bytes n)
-unfolding u16_bytes
-u16_are n = (omega arith, (omega arith, tt))
-
-u64_are : (n : ℕ) → AreBytes (u64_bytes n)
-unfolding u64_bytes
-u64_are n = (omega arith, (omega arith, (omega arith, (omega arith, (omega arith, (omega arith, (omega arith, (omega arith, tt))))))))
 
 -- an entry of a client of one byte, whose command is of bytes
 pub record IsOfBytes (e : Entry) : Type 0 where

@@ -14,3 +14,4 @@ pub mod Worlds
 pub mod Told
 pub mod Reading
 pub mod Example
+pub mod Given

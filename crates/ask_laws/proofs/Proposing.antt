@@ -30,7 +30,7 @@ many_entries : (es : List Entry) → length es * 11 ≤ sum_by entry_size es
 many_entries [] = omega arith
 many_entries (e ∷ es) = omega (arith, sum_by-cons entry_size e es, length-entry_bytes e, many_entries es)
 
-module _ (Is : ℕ → Entry → Type 0) (valid : (r : ℕ) (e : Entry) → Is r e → IsEntry e) where
+module _ (Is : ℕ → Entry → Type 0) (Valid : Type 0) (valid : (r : ℕ) (e : Entry) → Is r e → IsEntry e) where
   module _ (ring : Ring) where
     -- ---- a fresh batch
 
@@ -122,13 +122,13 @@ module _ (Is : ℕ → Entry → Type 0) (valid : (r : ℕ) (e : Entry) → Is r
         by false = appended (λ (d : Decided). ValueCarries Is ring.id.0 d.value) outstanding (range ∷ []) all (is, tt)
 
     pub offers_made : (link : Link) (campaign : Campaign) (range : Decided) (taken : ℕ) (effects : Effects) → CampaignCarries Is ring.id.0 campaign → ValueCarries Is ring.id.0 range.value
-        → EffectsCarry Is ring.id.0 effects → EffectsCarry Is ring.id.0 (offers ring link campaign range taken effects)
+        → EffectsCarry Is Valid ring.id.0 effects → EffectsCarry Is Valid ring.id.0 (offers ring link campaign range taken effects)
     unfolding offers
     offers_made link campaign range taken effects c is m =
         let now : Effects = with_part (with_campaign (after_offer ring range taken campaign) effects.part) effects in
-        decides_or_forwards_made Is ring link (own_mask ring) (vote_of campaign.ballot range) (votes_for ring (vote_of campaign.ballot range) now) is
-        (votes_made Is ring (vote_of campaign.ballot range) now is
-        (part_made Is ring (with_campaign (after_offer ring range taken campaign) effects.part) effects
+        decides_or_forwards_made Is Valid ring link (own_mask ring) (vote_of campaign.ballot range) (votes_for ring (vote_of campaign.ballot range) now) is
+        (votes_made Is Valid ring (vote_of campaign.ballot range) now is
+        (part_made Is Valid ring (with_campaign (after_offer ring range taken campaign) effects.part) effects
         (record {
           votes = m.part.votes;
           role = record { reports = c.reports; outstanding = outstanding_all range campaign.outstanding is c.outstanding; pending = proposed_all taken campaign.pending c.pending };
@@ -138,14 +138,14 @@ module _ (Is : ℕ → Entry → Type 0) (valid : (r : ℕ) (e : Entry) → Is r
     -- ---- one after another
 
     abbrev TurnCarries : Turn → Type 0
-    TurnCarries (Stops effects) = EffectsCarry Is ring.id.0 effects
-    TurnCarries (Proposes campaign range taken effects) = CampaignCarries Is ring.id.0 campaign × ValueCarries Is ring.id.0 range.value × EffectsCarry Is ring.id.0 effects
+    TurnCarries (Stops effects) = EffectsCarry Is Valid ring.id.0 effects
+    TurnCarries (Proposes campaign range taken effects) = CampaignCarries Is ring.id.0 campaign × ValueCarries Is ring.id.0 range.value × EffectsCarry Is Valid ring.id.0 effects
 
-    turn_carries : (effects : Effects) → EffectsCarry Is ring.id.0 effects → TurnCarries (turn_of ring effects)
+    turn_carries : (effects : Effects) → EffectsCarry Is Valid ring.id.0 effects → TurnCarries (turn_of ring effects)
     turn_carries effects m = by_role effects.part.coordinator.role m.part.role
       where
         by_choice : (campaign : Campaign) → CampaignCarries Is ring.id.0 campaign → (x : Choice) → ChoiceCarries x → TurnCarries (turn_by effects campaign x)
-        by_choice campaign c Rests is = part_made Is ring (with_campaign campaign effects.part) effects (record { votes = m.part.votes; role = c; held = m.part.held }) m
+        by_choice campaign c Rests is = part_made Is Valid ring (with_campaign campaign effects.part) effects (record { votes = m.part.votes; role = c; held = m.part.held }) m
         by_choice campaign c (Offers range taken) is = (c, is, m)
 
         by_role : (role : Role) → RoleCarries Is ring.id.0 role → TurnCarries (turn_in ring effects role)
@@ -154,7 +154,7 @@ module _ (Is : ℕ → Entry → Type 0) (valid : (r : ℕ) (e : Entry) → Is r
             let c : CampaignCarries Is ring.id.0 (advanced effects.part campaign) = record { reports = is.reports; outstanding = is.outstanding; pending = is.pending } in
             by_choice (advanced effects.part campaign) c (choice ring (advanced effects.part campaign) effects.part.learner.held) (choice_carries (advanced effects.part campaign) effects.part.learner.held c)
 
-    proposing_made : (n : ℕ) (link : Link) (turn : Turn) → TurnCarries turn → EffectsCarry Is ring.id.0 (proposing n ring link turn)
+    proposing_made : (n : ℕ) (link : Link) (turn : Turn) → TurnCarries turn → EffectsCarry Is Valid ring.id.0 (proposing n ring link turn)
     unfolding proposing
     proposing_made zero link (Stops effects) t = t
     proposing_made zero link (Proposes campaign range taken effects) t = t.2
@@ -163,6 +163,6 @@ module _ (Is : ℕ → Entry → Type 0) (valid : (r : ℕ) (e : Entry) → Is r
         proposing_made n link (turn_of ring (offers ring link campaign range taken effects))
         (turn_carries (offers ring link campaign range taken effects) (offers_made link campaign range taken effects t.0 t.1 t.2))
 
-    pub proposes_made : (link : Link) (effects : Effects) → EffectsCarry Is ring.id.0 effects → EffectsCarry Is ring.id.0 (proposes_after ring link effects)
+    pub proposes_made : (link : Link) (effects : Effects) → EffectsCarry Is Valid ring.id.0 effects → EffectsCarry Is Valid ring.id.0 (proposes_after ring link effects)
     unfolding proposes_after
     proposes_made link effects m = proposing_made END link (turn_of ring effects) (turn_carries effects m)

@@ -27,6 +27,7 @@ use Rattle.ask_laws.specs.Carried.{ValueCarries, LineCarries}
 use Rattle.ask_laws.specs.Asks.{asked_in, IsAsked}
 use Rattle.plain_model.specs.Lines.{learnings}
 use Rattle.ask_laws.proofs.Commands.{IsOfBytes as EntryOfBytes, batch_are}
+use Rattle.ask_laws.proofs.Given.{entry_of_bytes}
 use Rattle.ask_laws.proofs.Lists.{mapped}
 use Rattle.ask_laws.proofs.Worlds.{all_keep}
 
@@ -44,25 +45,11 @@ entries-asked config asked r (Batch batch) is =
 
 -- ---- bytes
 
-client_small : (most : ℕ) (clients : List ClientTable) (id : ℕ) (table : ClientTable) → AreAtMost most (client_ids clients) → client_at clients id ≡ Some table → id ≤ most
-client_small most [] id table all e = absurd (cc)
-client_small most (c ∷ clients) id table all e = by (c.id.0 == id) refl e (λ h. client_small most clients id table all.1 h)
-  where
-    by : (t : Bool) → (c.id.0 == id) ≡ t → (if t then Some c else client_at clients id) ≡ Some table → (client_at clients id ≡ Some table → id ≤ most) → id ≤ most
-    by true h found later = subst (λ (n : ℕ). n ≤ most) (same_number c.id.0 id h) all.0
-    by false h found later = later found
-
 module _ (config : Config) (hs : List Happening) (valid : IsValid config) where
-  entry_of_bytes : (r : ℕ) (e : Entry) → IsAsked config (asked_in config hs) r e → EntryOfBytes e
-  entry_of_bytes r e is = record {
-    client = let small : e.client.0 ≤ 255 = client_small 255 config.clients e.client.0 is.client.0 valid.clients.numbers is.client.1 in omega arith;
-    command = subst (λ (text : List ℕ). IsBytes text) (sym is.spelled) is.valid.bytes;
-  }
-
   pub value-of-bytes : (r : ℕ) (value : Value) → ValueCarries (IsAsked config (asked_in config hs)) r value → IsOfBytes value
   value-of-bytes r Skip is = tt
   value-of-bytes r (Batch batch) is =
-      subst (λ (text : List ℕ). IsBytes text) (sym is.spelled) (batch_are is.entries (mapped (IsAsked config (asked_in config hs) r) EntryOfBytes (entry_of_bytes r) is.entries is.each))
+      subst (λ (text : List ℕ). IsBytes text) (sym is.spelled) (batch_are is.entries (mapped (IsAsked config (asked_in config hs) r) EntryOfBytes (entry_of_bytes config (asked_in config hs) valid r) is.entries is.each))
 
   lines_of_bytes : (lines : List Line) → AllByRecursion (LineCarries (IsAsked config (asked_in config hs))) lines → AreOfBytes (learnings lines)
   lines_of_bytes [] all = tt

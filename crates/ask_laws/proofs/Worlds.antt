@@ -6,6 +6,10 @@ use Rattle.mrp_types.specs.declared.value.Entry.{Entry}
 use Rattle.mrp_types.specs.Entries.{IsEntry}
 use Rattle.command_codec.specs.declared.command.Command.{Command}
 use Rattle.mrp_config.specs.Config.{Config}
+use Rattle.mrp_config.specs.Valid.{IsValid, IsPartition}
+use Rattle.mrp_config.specs.Walk.{node_ids, ring_ids}
+use Rattle.state_laws.specs.States.{HasFewLogs}
+use Rattle.std.specs.List.{AllByRecursion}
 use Rattle.plain_model.proofs.TupleOrder.{same_number, other_number}
 use Rattle.protocol.specs.Lines.{Line}
 use Rattle.protocol.specs.Lines as line
@@ -14,6 +18,9 @@ use Rattle.bare_world.specs.Worlds.{Host, Up, Down, World, nothing, Happening, S
 use Rattle.bare_world.specs.Runs.{MayHappen, run, MayRun}
 use Rattle.ask_laws.specs.Carried.{WorldCarries}
 use Rattle.ask_laws.specs.Asks.{asked_with, asked_after, asked_in, IsAsked, IsTaken, ClientKeeps, ClientsKeep}
+use Rattle.ask_laws.proofs.Commands.{IsOfBytes}
+use Rattle.ask_laws.proofs.Given.{entry_of_bytes}
+use Rattle.ask_laws.proofs.Lists.{mapped}
 use Rattle.ask_laws.proofs.More.{world_more}
 use Rattle.ask_laws.proofs.Hosts.{lines_put, frames_put, came_carries, crashes_carry, opens_carry, fails_carry, steps_carry, breaks_carry, none_carries}
 use Rattle.ask_laws.proofs.Clients.{asked_more, keeps_more, EffectsKeep, Still, ticks_still, takes_still}
@@ -22,7 +29,7 @@ use Rattle.ask_laws.proofs.Asking.{now_asked, told_by, still_told, AskKeeps, ask
 -- what a run keeps, with what was asked so far
 pub record RunKeeps (config : Config) (asked : ℕ → ℕ → Option Command) (w : World) : Type 0 where
   pub clients : ClientsKeep config asked w.clients
-  pub carried : WorldCarries (IsAsked config asked) w
+  pub carried : WorldCarries (IsAsked config asked) (IsValid config) w
 
 module _ (config : Config) (old new : ℕ → ℕ → Option Command) (more : (c s : ℕ) (x : Command) → old c s ≡ Some x → new c s ≡ Some x) where
   -- a client is put, which takes what is new
@@ -51,7 +58,7 @@ module _ (config : Config) (old new : ℕ → ℕ → Option Command) (more : (c
       → ((c s : ℕ) (x : Command) → (id.0 ≡ c → ⊥) → new c s ≡ Some x → old c s ≡ Some x) → EffectsKeep config new id.0 effects → RunKeeps config new (client_step id effects w)
   applies_effects_keeps id effects w keeps own others d = record {
     clients = clients_put w.clients id effects.client keeps.clients own others d.client;
-    carried = lines_put (IsAsked config new) effects.lines sent d.lines (frames_put (IsAsked config new) effects.frames put d.frames still);
+    carried = lines_put (IsAsked config new) (IsValid config) effects.lines sent d.lines (frames_put (IsAsked config new) (IsValid config) effects.frames put d.frames still);
   }
     where
       put : World
@@ -60,10 +67,10 @@ module _ (config : Config) (old new : ℕ → ℕ → Option Command) (more : (c
       sent : World
       sent = record put { frames = put.frames ++ effects.frames }
 
-      before : WorldCarries (IsAsked config new) w
-      before = world_more (IsAsked config old) (IsAsked config new) (asked_more config old new more) w keeps.carried
+      before : WorldCarries (IsAsked config new) (IsValid config) w
+      before = world_more (IsAsked config old) (IsAsked config new) (IsValid config) (asked_more config old new more) w keeps.carried
 
-      still : WorldCarries (IsAsked config new) (with_client id effects.client w)
+      still : WorldCarries (IsAsked config new) (IsValid config) (with_client id effects.client w)
       still = record { hosts = before.hosts; frames = before.frames; lines = before.lines; works = before.works; read = before.read }
 
 module _ (config : Config) (asked : ℕ → ℕ → Option Command) where
@@ -73,43 +80,49 @@ module _ (config : Config) (asked : ℕ → ℕ → Option Command) where
       (λ s x e. subst (λ (n : ℕ). IsTaken config id.0 s n x) (sym still.next) (keeps.clients.taken id.0 s x e)) (λ c s x other e. e) still.keeps
 
   -- what happens at a node leaves the clients
-  at_node : (w v : World) → v.clients ≡ w.clients → RunKeeps config asked w → WorldCarries (IsAsked config asked) v → RunKeeps config asked v
+  at_node : (w v : World) → v.clients ≡ w.clients → RunKeeps config asked w → WorldCarries (IsAsked config asked) (IsValid config) v → RunKeeps config asked v
   at_node w v same keeps carried = record { clients = subst (λ (clients : ℕ → ClientView). ClientsKeep config asked clients) (sym same) keeps.clients; carried = carried }
 
   valid : (r : ℕ) (e : Entry) → IsAsked config asked r e → IsEntry e
   valid r e is = is.entry
 
+  given : IsValid config → (r : ℕ) (e : Entry) → IsAsked config asked r e → IsOfBytes e
+  given deployed r e is = entry_of_bytes config asked deployed r e is
+
+  few_logs : IsValid config → AllByRecursion HasFewLogs config.partitions
+  few_logs deployed = mapped (IsPartition (node_ids config.nodes) (ring_ids config.rings)) HasFewLogs (λ p is. record { few = is.few_logs; low = is.low_logs }) config.partitions deployed.partitions.each
+
   pub happening_keeps : (w : World) (h : Happening) → MayHappen config w h → RunKeeps config asked w → RunKeeps config (asked_with config w h asked) (happens config h w)
   happening_keeps w (Steps id event) may keeps =
       at_node w (steps_as config id event (w.hosts id.0) w) (same (w.hosts id.0)) keeps
-      (steps_carry (IsAsked config asked) valid config id event (w.hosts id.0) w (came_carries (IsAsked config asked) w id event may keeps.carried) (keeps.carried.hosts id.0) keeps.carried)
+      (steps_carry (IsAsked config asked) (IsValid config) valid given config id event (w.hosts id.0) w (came_carries (IsAsked config asked) (IsValid config) w id event may keeps.carried) (keeps.carried.hosts id.0) keeps.carried)
     where
       same : (host : Host) → (steps_as config id event host w).clients ≡ w.clients
       same (Up view) = refl
       same (Down durable pending) = refl
   happening_keeps w (Breaks id event cause) may keeps =
       at_node w (breaks_as config id event cause (w.hosts id.0) w) (same (w.hosts id.0)) keeps
-      (breaks_carry (IsAsked config asked) valid config id event cause (w.hosts id.0) w (came_carries (IsAsked config asked) w id event may keeps.carried) (keeps.carried.hosts id.0) keeps.carried)
+      (breaks_carry (IsAsked config asked) (IsValid config) valid given config id event cause (w.hosts id.0) w (came_carries (IsAsked config asked) (IsValid config) w id event may keeps.carried) (keeps.carried.hosts id.0) keeps.carried)
     where
       same : (host : Host) → (breaks_as config id event cause host w).clients ≡ w.clients
       same (Up view) = refl
       same (Down durable pending) = refl
   happening_keeps w (Crashes id cause) may keeps =
-      at_node w (crashes_as id cause (w.hosts id.0) w) (same (w.hosts id.0)) keeps (crashes_carry (IsAsked config asked) id cause (w.hosts id.0) w (keeps.carried.hosts id.0) keeps.carried)
+      at_node w (crashes_as id cause (w.hosts id.0) w) (same (w.hosts id.0)) keeps (crashes_carry (IsAsked config asked) (IsValid config) id cause (w.hosts id.0) w (keeps.carried.hosts id.0) keeps.carried)
     where
       same : (host : Host) → (crashes_as id cause host w).clients ≡ w.clients
       same (Up view) = refl
       same (Down durable pending) = refl
   happening_keeps w (Opens id after journal checkpoints) may keeps =
       at_node w (opens_as config id journal checkpoints (w.hosts id.0) w) (same (w.hosts id.0)) keeps
-      (opens_carry (IsAsked config asked) config id after journal checkpoints (w.hosts id.0) w may (keeps.carried.hosts id.0) keeps.carried)
+      (opens_carry (IsAsked config asked) (IsValid config) given config few_logs id after journal checkpoints (w.hosts id.0) w may (keeps.carried.hosts id.0) keeps.carried)
     where
       same : (host : Host) → (opens_as config id journal checkpoints host w).clients ≡ w.clients
       same (Up view) = refl
       same (Down durable pending) = refl
   happening_keeps w (Fails id after left cause) may keeps =
       at_node w (fails_as id after left cause (w.hosts id.0) w) (same (w.hosts id.0)) keeps
-      (fails_carry (IsAsked config asked) id after left cause (w.hosts id.0) w may.1 (keeps.carried.hosts id.0) keeps.carried)
+      (fails_carry (IsAsked config asked) (IsValid config) id after left cause (w.hosts id.0) w may.1 (keeps.carried.hosts id.0) keeps.carried)
     where
       same : (host : Host) → (fails_as id after left cause host w).clients ≡ w.clients
       same (Up view) = refl
@@ -129,8 +142,8 @@ module _ (config : Config) (asked : ℕ → ℕ → Option Command) where
       still_keeps id (client_ticks config (w.clients id.0)) w keeps (ticks_still config asked id.0 (w.clients id.0) (keeps.clients.each id.0) (keeps.clients.taken id.0))
   happening_keeps w (ClientTakes id body) may keeps =
       still_keeps id (client_takes config (w.clients id.0) body) w keeps (takes_still config asked id.0 (w.clients id.0) body (keeps.clients.each id.0))
-  happening_keeps w (Shows id) may keeps = at_node w (happens config (Shows id) w) refl keeps (lines_put (IsAsked config asked) (line.State id (state_of_host (w.hosts id.0)) ∷ []) w (tt, tt) keeps.carried)
-  happening_keeps w (Lists number shown) may keeps = at_node w (happens config (Lists number shown) w) refl keeps (lines_put (IsAsked config asked) (line.Frame number shown ∷ []) w (tt, tt) keeps.carried)
+  happening_keeps w (Shows id) may keeps = at_node w (happens config (Shows id) w) refl keeps (lines_put (IsAsked config asked) (IsValid config) (line.State id (state_of_host (w.hosts id.0)) ∷ []) w (tt, tt) keeps.carried)
+  happening_keeps w (Lists number shown) may keeps = at_node w (happens config (Lists number shown) w) refl keeps (lines_put (IsAsked config asked) (IsValid config) (line.Frame number shown ∷ []) w (tt, tt) keeps.carried)
 
 -- ---- runs
 
@@ -142,7 +155,7 @@ run_keeps config (h ∷ hs) w asked may keeps = run_keeps config hs (happens con
 none_keeps : (config : Config) → RunKeeps config (λ c s. None) nothing
 none_keeps config = record {
   clients = record { taken = λ c s x e. absurd (no_command x e); each = λ c. record { id = refl; first = omega arith; awaited = tt } };
-  carried = none_carries (IsAsked config (λ c s. None));
+  carried = none_carries (IsAsked config (λ c s. None)) (IsValid config);
 }
   where
     no_command : (x : Command) → None ≡ Some x → ⊥

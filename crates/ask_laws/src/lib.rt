@@ -29,9 +29,11 @@ ghost use Rattle.ask_laws.specs.Example.{config, a_run, learned, entry};
 /// In every run each value is Skip or the one spelling of a batch whose entries were asked on its ring: in a vote that is kept,
 /// on either state that the disk of a node that is down may stand for, in a report, in a proposal that is outstanding, in what was
 /// learned, in a Promise, Accept, Decide or Chosen frame, in a learn line, in what was ever recorded and in what an opening read.
-/// So was each command that waits and each in a Submit frame. A client sends its own commands alone, with hops 0.
+/// So was each command that waits and each in a Submit frame. A client sends its own commands alone, with hops 0. No step records an
+/// epoch. In a valid deployment each ready replica keeps a valid state of bytes, and each checkpoint, each part of one in a frame and
+/// what was gathered of one is of bytes.
 pub fn entries_were_asked()
-    ensures { (config : Config) (hs : List Happening) → MayRun config nothing hs → WorldCarries (IsAsked config (asked_in config hs)) (run config hs nothing) }
+    ensures { (config : Config) (hs : List Happening) → MayRun config nothing hs → WorldCarries (IsAsked config (asked_in config hs)) (IsValid config) (run config hs nothing) }
 {}
 
 /// What was taken is a command with a spelling, of a client of the deployment, under a number from 1 to 2 ^ 63 - 1 below the

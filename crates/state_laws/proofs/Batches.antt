@@ -1,5 +1,5 @@
 -- Batches of entries, and what a deployment keeps to.
-use Rattle.std.proofs.Common.{arith, ◌≡◌, ◌<◌, ℕ, suc, true, List, [], ◌∷◌, ◌++◌, Option, Some, None, refl, sym, ap, ◌∙◌, append_assoc, append-nil}
+use Rattle.std.proofs.Common.{◌≡◌, ◌<◌, ℕ, suc, true, List, [], ◌∷◌, ◌++◌, Option, Some, None, refl, sym, ap, ◌∙◌, append_assoc, append-nil}
 use Rattle.std.specs.Prelude.{option_map}
 use Rattle.std.proofs.Math.Path.{ap₂}
 use Rattle.mrp_types.specs.declared.id.RingId.{RingId}

@@ -9,3 +9,4 @@ pub mod Given
 pub mod Reread
 pub mod Batches
 pub mod Examples
+pub mod Bytes

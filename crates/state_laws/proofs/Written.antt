@@ -66,7 +66,7 @@ sessions_chain : (least : ℕ) (sessions : List Session) → AreSessions least s
 sessions_chain least [] are = tt
 sessions_chain least (session ∷ sessions) are = (are.0, sessions_chain (session.client.0 + 1) sessions are.1)
 
-few_sessions : (least : ℕ) (sessions : List Session) → least ≤ 256 → AreSessions least sessions → length sessions + least ≤ 256
+pub few_sessions : (least : ℕ) (sessions : List Session) → least ≤ 256 → AreSessions least sessions → length sessions + least ≤ 256
 few_sessions least [] most are = omega (arith, most)
 few_sessions least (session ∷ sessions) most are =
     omega (arith, are.0.rising, are.0.client, few_sessions (session.client.0 + 1) sessions (omega (arith, are.0.client)) are.1)

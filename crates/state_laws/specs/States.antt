@@ -1,5 +1,5 @@
 -- What holds of every replica that given entries leave of an empty one, so that its written state is read back.
-use Rattle.std.specs.Prelude.{◌≡◌, ◌≤◌, ℕ, ◌+◌, ◌-◌, ◌^◌, IsTrue, List, [], ◌∷◌, length}
+use Rattle.std.specs.Prelude.{◌≡◌, ◌≤◌, ◌<◌, ℕ, ◌+◌, ◌-◌, ◌^◌, IsTrue, List, [], ◌∷◌, length}
 use Rattle.std.specs.List.{AllByRecursion}
 use Rattle.hex.specs.Hex.{IsBytes}
 use Rattle.mrp_types.specs.declared.id.LogId.{LogId}
@@ -75,3 +75,29 @@ pub record IsState (p : PartitionTable) (r : Replica) : Type 0 where
   pub logs : AreLogsOf p.logs r.logs
   pub table : AreRisingAfter [] r.table
   pub small : services_size r.logs r.table ≤ 67108864
+
+-- ---- bytes
+
+-- each is a byte
+abbrev pub AreBytes : List ℕ → Type 0
+AreBytes bytes = AllByRecursion (λ (b : ℕ). b < 256) bytes
+
+abbrev pub SessionBytes : Session → Type 0
+SessionBytes session = (session.client.0 < 256) × AreBytes session.reply
+
+abbrev pub LogBytes : LogState → Type 0
+LogBytes log = (log.id.0 < 256) × AllByRecursion AreBytes log.values
+
+abbrev pub EntryBytes : TableEntry → Type 0
+EntryBytes entry = AreBytes entry.key × AreBytes entry.value
+
+-- all that a replica keeps is of bytes
+pub record HoldsBytes (r : Replica) : Type 0 where
+  pub sessions : AllByRecursion SessionBytes r.sessions
+  pub logs : AllByRecursion LogBytes r.logs
+  pub table : AllByRecursion EntryBytes r.table
+
+-- a valid state of the partition, of bytes
+pub record IsSound (p : PartitionTable) (r : Replica) : Type 0 where
+  pub state : IsState p r
+  pub bytes : HoldsBytes r

@@ -8,7 +8,7 @@
 #![tactic(auto)]
 
 ghost use Rattle.std.specs.List.{AllByRecursion};
-ghost use Rattle.std.specs.Prelude.{◌≡◌, ◌<◌, ◌++◌, ◌∷◌, List, ℕ, Ok, Some, true};
+ghost use Rattle.std.specs.Prelude.{◌≡◌, ◌<◌, ◌^◌, ◌++◌, ◌∷◌, length, List, ℕ, Ok, Some, true};
 ghost use Rattle.mrp_config.specs.declared.tables.PartitionTable.{PartitionTable};
 ghost use Rattle.hex.specs.Hex.{IsBytes};
 ghost use Rattle.mrp_types.specs.declared.id.RingId.{RingId};
@@ -23,7 +23,7 @@ ghost use Rattle.plain_model.specs.Replicas.{Replica, entries_of_batch, apply, a
 ghost use Rattle.plain_model.specs.StateBytes.{state_bytes, whole_state, read_state, state_of};
 ghost use Rattle.state_laws.specs.Spoken.{IsSpoken, IsSpokenOrNone, IsTextOrNone, IsReplyText, replies_listed};
 ghost use Rattle.state_laws.specs.Books.{AreOfBytes};
-ghost use Rattle.state_laws.specs.States.{IsState, IsGiven, AreGiven, HasFewLogs};
+ghost use Rattle.state_laws.specs.States.{IsState, IsGiven, AreGiven, HasFewLogs, IsSound};
 
 /// A valid state is read as it is written, as the whole of its bytes and with bytes behind it, which stay unread.
 pub fn states_are_read_back()
@@ -73,6 +73,16 @@ pub fn what_is_read_was_written()
     ensures some { (p : PartitionTable) (bytes : List ℕ) (r : Replica) → IsBytes bytes → state_of p bytes ≡ Some r → (bytes ≡ state_bytes r) × IsState p r }
     ensures rest { (p : PartitionTable) (bytes : List ℕ) (r : Replica) (rest : List ℕ) → IsBytes bytes → read_state p bytes ≡ Ok (r, rest) →
         (bytes ≡ state_bytes r ++ rest) × IsState p r }
+{}
+
+/// A replica is sound where its state is valid and of bytes. So is a new one, what given entries leave of one that is, and what is
+/// read of bytes. What it writes is of bytes, fewer than 2 ^ 64.
+pub fn sound_replicas_stay_sound()
+    ensures first { (p : PartitionTable) → HasFewLogs p → IsSound p (empty_replica p) }
+    ensures batch { (p : PartitionTable) (r : Replica) (es : List Entry) → HasFewLogs p → AreGiven es → IsSound p r → IsSound p (applies p r es).replica }
+    ensures read { (p : PartitionTable) (bytes : List ℕ) (r : Replica) → IsBytes bytes → state_of p bytes ≡ Some r → IsSound p r }
+    ensures bytes { (p : PartitionTable) (r : Replica) → HasFewLogs p → IsSound p r → IsBytes (state_bytes r) }
+    ensures short { (p : PartitionTable) (r : Replica) → IsSound p r → length (state_bytes r) < 2 ^ 64 }
 {}
 
 /// A replica that takes a batch after other entries keeps what the plain lists say of all of them, and its replies are, by their

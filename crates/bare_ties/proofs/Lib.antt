@@ -1,0 +1,4 @@
+mod Keeping
+mod Changing
+mod Stepping
+mod Opening

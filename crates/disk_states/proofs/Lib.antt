@@ -1,0 +1,12 @@
+pub mod Moments
+pub mod Holding
+pub mod Recording
+pub mod Renewing
+pub mod Compacting
+pub mod Pairs
+pub mod Spelling
+pub mod Saving
+pub mod Working
+pub mod Finding
+pub mod Judging
+pub mod Opening
