@@ -80,7 +80,7 @@ none_made : (o : Option Told) → o ≡ made_by (λ t. []) o
 none_made None = refl
 none_made (Some t) = ap Some (sym (and_none t))
 
-take_none : {A : Type 0} (n : ℕ) → take n (let none : List A = [] in none) ≡ []
+pub take_none : {A : Type 0} (n : ℕ) → take n (let none : List A = [] in none) ≡ []
 take_none zero = refl
 take_none (suc n) = refl
 

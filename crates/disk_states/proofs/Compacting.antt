@@ -7,19 +7,24 @@ use Rattle.disk_model.specs.Areas.{bytes_of, same}
 use Rattle.disk_model.specs.Calls.{Told, and_then, reads, IsSettled}
 use Rattle.gate_area.specs.declared.pair.Pair.TheVariants.{Journal}
 use Rattle.gate_area.specs.declared.pair.Head.TheVariants.{Closed}
-use Rattle.gate_area.specs.Gate.{FrontOrShort, IsClosed, RenewLeaves}
+use Rattle.gate_area.specs.Gate.{FrontOrShort, IsClosed, RenewLeaves, renew_calls}
+use Rattle.disk_model.specs.declared.call.Call.{Call}
 use Rattle.gate_area.specs.Standing.{stands, head_of, other_of}
 use Rattle.gate_area.proofs.Heads.{head-short}
 use Rattle.gate_log.specs.Records.{area_body, IsShort, StandsFor as Spells}
-use Rattle.gate_log.specs.Journal.{Log, Holds, compact_calls, compacted}
+use Rattle.gate_log.specs.Journal.{Log, Holds, compacted}
 use Rattle.gate_log.specs.Moments.{ChecksStay}
 use Rattle.gate_log.proofs.Fronts.{front_stays}
 use Rattle.gate_log.proofs.Moves.{checks_stay, standing_area, stood}
-use Rattle.gate_log.proofs.Renewals.{length-body, closed_stands, next_holds, renewed}
+use Rattle.gate_log.proofs.Renewals.{length-body, closed_stands, next_holds, renewed, other_own}
 use Rattle.disk_states.specs.States.{HaveRecords}
 use Rattle.disk_states.proofs.Moments.{AtEach, renew_leaves}
 use Rattle.disk_states.proofs.Holding.{held, log_held, closed_head}
 use Rattle.disk_states.proofs.Recording.{HaveEither}
+
+-- the calls of a compaction that has room: the other area is founded with one record and the next generation
+abbrev pub compact_calls : Log → List ℕ → Told → List Call
+compact_calls log r = renew_calls (other_of log.area) (area_body (log.generation + 1) (r ∷ []))
 
 -- the area that stands isn't the other one
 apart : (area : Area) → same area (other_of area) ≡ false
@@ -27,10 +32,6 @@ apart Journal0 = refl
 apart Journal1 = refl
 apart Check2 = refl
 apart Check3 = refl
-
-other_own : (area : Area) → (area ≡ Journal0) ⊎ (area ≡ Journal1) → (other_of area ≡ Journal0) ⊎ (other_of area ≡ Journal1)
-other_own area (inl first) = inr (ap other_of first)
-other_own area (inr second) = inl (ap other_of second)
 
 -- an image of the renewed area
 compact_held : (log : Log) (records : List (List ℕ)) (r : List ℕ) (before image : Areas) → IsShort r → log.generation < 2 ^ 64 - 1 → Holds log records before

@@ -13,7 +13,7 @@ use Rattle.gate_area.specs.declared.pair.Pair.TheVariants.{Journal}
 use Rattle.gate_area.specs.Gate.{renew_calls, RenewLeaves}
 use Rattle.gate_area.specs.Standing.{stands}
 use Rattle.gate_log.specs.Records.{walk_of, area_body}
-use Rattle.gate_log.specs.Journal.{Log, Holds, log_of, in_area, records_of, begin_calls}
+use Rattle.gate_log.specs.Journal.{Log, Holds, log_of, in_area, records_of}
 use Rattle.gate_log.specs.Moments.{ChecksStay}
 use Rattle.gate_log.proofs.Moves.{Judgement, checks_stay}
 use Rattle.gate_log.proofs.Renewals.{length-body, fresh_holds, renewed}
@@ -25,12 +25,6 @@ use Rattle.disk_states.proofs.Renewing.{walked, fresh_held}
 
 -- ---- the calls among the operations
 
-pub changes-append : (xs ys : List Op) → changes_in (xs ++ ys) ≡ changes_in xs ++ changes_in ys
-changes-append [] ys = refl
-changes-append (Asks ∷ xs) ys = changes-append xs ys
-changes-append (Reads ∷ xs) ys = changes-append xs ys
-changes-append (Does call ∷ xs) ys = ap (λ calls. call ∷ calls) (changes-append xs ys)
-
 reads_none : (n : ℕ) → changes_in (replicate n Reads) ≡ []
 reads_none zero = refl
 reads_none (suc n) = reads_none n
@@ -41,8 +35,10 @@ checks_none areas (Err spot) = refl
 checks_none areas (Ok None) = refl
 checks_none areas (Ok (Some (area, generation))) = reads_none (length (bytes_of area areas) / 65536 + 1)
 
+-- a fresh pair gets a journal without records, after a sync; nothing is done where one stands
 abbrev pub finding_calls : Option (Area × ℕ) → Areas → List Call
-finding_calls standing areas = Sync ∷ begin_calls (Ok standing) (begun areas)
+finding_calls None areas = Sync ∷ renew_calls Journal0 (area_body 1 []) (begun areas)
+finding_calls (Some standing) areas = Sync ∷ []
 
 finding_are : (standing : Option (Area × ℕ)) (areas : Areas) → changes_in (finding_by areas (Ok standing)) ≡ finding_calls standing areas
 finding_are None areas = refl

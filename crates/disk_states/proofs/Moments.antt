@@ -14,8 +14,8 @@ use Rattle.disk_model.proofs.OnArea.{settled-image}
 use Rattle.disk_model.proofs.Reading.{reads-bytes, same_areas}
 use Rattle.gate_area.specs.Gate.{retire_calls, gate_calls, renew_calls, RenewLeaves}
 use Rattle.gate_area.proofs.Pairs.{retire_leaves, retire_settles, retire_retires, found_leaves, gate_settles}
-use Rattle.gate_area.proofs.Phases.{and_then-and_then, and_none}
 use Rattle.gate_area.proofs.Renewals.{retire_renews, found_renews}
+use Rattle.disk_model.proofs.Went.{take_none, and_then-and_then, and_none}
 
 -- wherever these calls are stopped, each image is of this kind
 abbrev pub AtEach : Told → List Call → (Areas → Type 0) → Type 0
@@ -26,10 +26,6 @@ pub settled_is : (t : Told) (image : Areas) → IsSettled t → IsImage t image 
 settled_is t image settled is =
     let stays : (area : Area) → bytes_of area image ≡ bytes_of area (reads t) = λ area. settled-image t image settled is area ∙ sym (reads-bytes t area) in
     same_areas image (reads t) (stays Journal0) (stays Journal1) (stays Check2) (stays Check3)
-
-take_none : (i : ℕ) → take i (let none : List Call = [] in none) ≡ []
-take_none zero = refl
-take_none (suc i) = refl
 
 -- no call is made
 pub at_none : (t : Told) (P : Areas → Type 0) → IsSettled t → P (reads t) → AtEach t [] P

@@ -13,10 +13,10 @@ use Rattle.gate_area.specs.declared.pair.Pair.TheVariants.{Check as CheckPair}
 use Rattle.gate_area.specs.Operations.{survey_ops, gate_ops}
 use Rattle.gate_area.specs.Standing.{stands}
 use Rattle.gate_area.proofs.Pairs.{gate_settles}
-use Rattle.gate_area.proofs.Phases.{and_then-and_then, reads_image}
+use Rattle.gate_area.proofs.Phases.{reads_image}
 use Rattle.gate_log.specs.Records.{behind_gate, IsShort}
-use Rattle.gate_log.specs.Journal.{Log, append_calls, appended}
-use Rattle.gate_log.proofs.Moves.{append_holds}
+use Rattle.gate_log.specs.Journal.{Log, appended}
+use Rattle.gate_log.proofs.Moves.{append_holds, append_calls}
 use Rattle.vote_state.specs.State.{State, taken}
 use Rattle.vote_journal.specs.declared.fault.OpenFault.{OpenFault}
 use Rattle.vote_journal.specs.declared.fault.OpenFault.TheVariants.{EpochLimit}
@@ -31,8 +31,9 @@ use Rattle.disk_states.specs.Openings.{raised as in_next_epoch, opening_calls, N
 use Rattle.disk_states.proofs.Moments.{AtEach, at_both}
 use Rattle.disk_states.proofs.Recording.{HaveEither, append_each}
 use Rattle.disk_states.proofs.Saving.{checks_stay}
-use Rattle.disk_states.proofs.Finding.{changes-append, checks_none, finding_calls, StaysFound, Finds, finds}
+use Rattle.disk_states.proofs.Finding.{checks_none, finding_calls, StaysFound, Finds, finds}
 use Rattle.disk_states.proofs.Judging.{Accepted, accepts, accepted}
+use Rattle.disk_model.proofs.Went.{and_then-and_then, changes-append}
 
 abbrev opens_as : List Op → Result Kept Cause → Openings Kept
 opens_as work result = record { work = work; result = result }

@@ -9,6 +9,7 @@ use Rattle.gate_area.specs.declared.pair.Head.{Head}
 use Rattle.gate_area.specs.declared.pair.Head.TheVariants.{Closed, Spoilt, Open}
 use Rattle.gate_area.specs.Standing.{judged, standing, head_of}
 use Rattle.gate_log.proofs.Moves.{Judgement, stood, spoilt, e_fault, e_area}
+use Rattle.gate_log.proofs.Renewals.{number}
 
 -- the heads alone tell what stands
 heads : (n m : ℕ) (a b c d : Head) → a ≡ b → c ≡ d → judged Check n m a c ≡ judged Check n m b d
@@ -16,9 +17,6 @@ heads n m a b c d e f = ap (λ h. judged Check n m h c) e ∙ ap (judged Check n
 
 abbrev pub no_area : Judgement
 no_area = Ok None
-
-number : (a : Area) (k : ℕ) (area : Area) (g : ℕ) → stood a k ≡ stood area g → k ≡ g
-number a k area g e = let pair : (let p : Area × ℕ = (a, k) in p) ≡ (let q : Area × ℕ = (area, g) in q) = cc in ap (λ (p : Area × ℕ). p.1) pair
 
 -- the area that stands, with its head
 Counts : Area → ℕ → Head → Head → Type 0

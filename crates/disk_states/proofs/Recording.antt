@@ -10,11 +10,11 @@ use Rattle.disk_model.proofs.Reading.{reads-bytes}
 use Rattle.gate_area.specs.Gate.{gate_steps, OpenOrShut, OthersStay}
 use Rattle.gate_area.proofs.Moments.{found_file}
 use Rattle.gate_log.specs.Records.{gate_of, behind_gate, IsShort, StandsFor as Spells}
-use Rattle.gate_log.specs.Journal.{Log, Holds, append_calls}
+use Rattle.gate_log.specs.Journal.{Log, Holds}
 use Rattle.gate_log.specs.Moments.{ChecksStay}
 use Rattle.gate_log.proofs.Appends.{shut_stands, opened_stands, opened_front}
 use Rattle.gate_log.proofs.Fronts.{SameFront, front_stays}
-use Rattle.gate_log.proofs.Moves.{gate-log, checks_stay, standing_area}
+use Rattle.gate_log.proofs.Moves.{gate-log, checks_stay, standing_area, append_calls}
 use Rattle.disk_states.specs.States.{HaveRecords}
 use Rattle.disk_states.proofs.Moments.{AtEach}
 use Rattle.disk_states.proofs.Holding.{held}

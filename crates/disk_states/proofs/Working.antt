@@ -15,11 +15,11 @@ use Rattle.gate_area.specs.Gate.{renew_calls}
 use Rattle.gate_area.specs.Operations.{gate_ops, renew_ops}
 use Rattle.gate_area.specs.Standing.{other_of}
 use Rattle.gate_area.proofs.Pairs.{gate_settles}
-use Rattle.gate_area.proofs.Phases.{and_none, reads_image}
+use Rattle.gate_area.proofs.Phases.{reads_image}
 use Rattle.gate_log.specs.Records.{behind_gate, area_body, end_of, IsShort}
-use Rattle.gate_log.specs.Journal.{append_calls, appended, compact_calls, compacted}
+use Rattle.gate_log.specs.Journal.{appended, compacted}
 use Rattle.gate_log.specs.Moments.{ChecksStay}
-use Rattle.gate_log.proofs.Moves.{stood, append_holds}
+use Rattle.gate_log.proofs.Moves.{stood, append_holds, append_calls}
 use Rattle.gate_log.proofs.Renewals.{IsRenewed, renewed}
 use Rattle.vote_state.specs.declared.change.Change.{Change}
 use Rattle.vote_state.specs.declared.change.Change.TheVariants.{Epoch, Promise, Vote, Trim}
@@ -29,7 +29,8 @@ use Rattle.vote_state.specs.Valid.{IsChange}
 use Rattle.vote_state.proofs.MadeAgain.{state_made}
 use Rattle.vote_state.proofs.ValidLemmas.{state_valid}
 use Rattle.vote_journal.specs.Spelling.{change_bytes, changes_bytes, named_bytes, record_bytes, first_bytes}
-use Rattle.vote_journal.specs.Journal.{Journal, Stands, state_of, record_calls, recorded, compact_record, compacted_journal}
+use Rattle.vote_journal.specs.Journal.{Journal, Stands, state_of, recorded, compact_record, compacted_journal}
+use Rattle.vote_journal.specs.Operations.{record_ops, compaction_ops}
 use Rattle.vote_journal.proofs.Recording.{IsCounted, one_more, recorded_stands}
 use Rattle.vote_journal.proofs.Replacing.{kept_epoch, one_record_state, compacted_stands}
 use Rattle.checkpoint.specs.Spelling.{checkpoint_body}
@@ -41,10 +42,11 @@ use Rattle.disk_states.specs.Works.{MayRecord, MaySave, MayCompact, MayWork, jou
 use Rattle.disk_states.proofs.Moments.{settled_is, at_none, renew_leaves, renew_settles}
 use Rattle.disk_states.proofs.Holding.{same_value, log_held, log_stays, records_stay}
 use Rattle.disk_states.proofs.Recording.{HaveEither, append_each}
-use Rattle.disk_states.proofs.Compacting.{HoldsAlone, compact_each, compact_holds}
+use Rattle.disk_states.proofs.Compacting.{HoldsAlone, compact_each, compact_holds, compact_calls}
 use Rattle.disk_states.proofs.Pairs.{no_area}
 use Rattle.disk_states.proofs.Spelling.{body_length}
 use Rattle.disk_states.proofs.Saving.{checks_stay, journal_stays, new_stands, SaveLeaves, save_leaves}
+use Rattle.disk_model.proofs.Went.{and_none}
 
 -- ---- what is held stands
 
@@ -124,9 +126,9 @@ either_stands j c before image later p stands checks state newest have = by have
     by (inr new) = inr (stands_by j c p later image new state now newest)
 
 module _ (t : Told) (j : Journal) (c : Checkpoints) (held : IsHeld j c t) where
-  pub record_brings : (cs : List Change) → MayRecord j cs → BringsAbout t (record_calls j cs) (possible_at j c) (recorded j cs) c
-  record_brings [] may = nothing_brings t j c held
-  record_brings (x ∷ xs) may = record {
+  -- its calls, where there is room for the record
+  record_made : (x : Change) (xs : List Change) → MayRecord j (x ∷ xs) → BringsAbout t (append_calls j.log (record_bytes (x ∷ xs))) (possible_at j c) (recorded j (x ∷ xs)) c
+  record_made x xs may = record {
     stopped = λ i image is.
         either_stands j c (reads t) image (held.journal.records ++ record_bytes (x ∷ xs) ∷ []) (possible_at (recorded j (x ∷ xs)) c) held.journal held.checks
         (one_more j.id held.journal.records j.state (x ∷ xs) held.journal.some held.journal.state counted may.each may.rise) refl
@@ -141,7 +143,7 @@ module _ (t : Told) (j : Journal) (c : Checkpoints) (held : IsHeld j c t) where
   }
     where
       u : Told
-      u = and_then t (record_calls j (x ∷ xs))
+      u = and_then t (append_calls j.log (record_bytes (x ∷ xs)))
 
       short : IsShort (record_bytes (x ∷ xs))
       short = omega (arith, may.room, may.limit)
@@ -152,10 +154,19 @@ module _ (t : Told) (j : Journal) (c : Checkpoints) (held : IsHeld j c t) where
       stay : ChecksStay (reads t) (reads u)
       stay = (append_each t j.log held.journal.records (record_bytes (x ∷ xs)) short held.settled held.journal.holds 4 (reads u) (reads_image u)).checks
 
+  pub record_brings : (cs : List Change) → MayRecord j cs → BringsAbout t (changes_in (record_ops j cs)) (possible_at j c) (recorded j cs) c
+  record_brings [] may = nothing_brings t j c held
+  record_brings (x ∷ xs) may =
+      let r = record_bytes (x ∷ xs) in
+      let room : nat_lt j.log.limit (j.log.end + (5 + length r)) ≡ false = le-ltb j.log.limit (j.log.end + (5 + length r)) may.room in
+      subst (λ (calls : List Call). BringsAbout t calls (possible_at j c) (recorded j (x ∷ xs)) c)
+      (sym (ap (λ b. changes_in (if b then [] else gate_ops j.log.area (j.log.end - 1) (behind_gate r))) room))
+      (record_made x xs may)
+
   -- ---- a compaction
 
-  pub compact_brings : MayCompact j → BringsAbout t (compact_calls j.log (compact_record j) t) (possible_at j c) (compacted_journal j) c
-  compact_brings may = record {
+  compact_made : MayCompact j → BringsAbout t (compact_calls j.log (compact_record j) t) (possible_at j c) (compacted_journal j) c
+  compact_made may = record {
     stopped = λ i image is.
         either_stands j c (reads t) image (r ∷ []) (possible_at j c) held.journal held.checks again refl
         (compact_each t j.log held.journal.records r short may.generation held.settled held.journal.holds i image is);
@@ -185,6 +196,14 @@ module _ (t : Told) (j : Journal) (c : Checkpoints) (held : IsHeld j c t) where
 
       alone : HoldsAlone j.log (compact_record j) (reads t) (reads (and_then t (compact_calls j.log (compact_record j) t)))
       alone = compact_holds t j.log held.journal.records (compact_record j) short may.generation held.settled held.journal.holds
+
+  pub compact_brings : MayCompact j → BringsAbout t (changes_in (compaction_ops j t)) (possible_at j c) (compacted_journal j) c
+  compact_brings may =
+      let r = compact_record j in
+      let room : nat_lt j.log.limit (22 + length r) ≡ false = le-ltb j.log.limit (22 + length r) (omega (arith, may.room)) in
+      subst (λ (calls : List Call). BringsAbout t calls (possible_at j c) (compacted_journal j) c)
+      (sym (ap (λ b. changes_in (if b then [] else renew_ops (other_of j.log.area) (area_body (j.log.generation + 1) (r ∷ [])) t)) room))
+      (compact_made may)
 
   -- ---- a save
 
@@ -231,19 +250,6 @@ module _ (t : Told) (j : Journal) (c : Checkpoints) (held : IsHeld j c t) where
 pub work_brings : (view : View) (work : Work) (t : Told) → IsHeld view.journal view.checkpoints t → MayWork view work
     → BringsAbout t (changes_in (ops_of view work t)) (possible_at view.journal view.checkpoints) (journal_after view work) (checkpoints_after view work)
 work_brings view Nothing t held may = nothing_brings t view.journal view.checkpoints held
-work_brings view (Records []) t held may = nothing_brings t view.journal view.checkpoints held
-work_brings view (Records (x ∷ xs)) t held may =
-    let j = view.journal in
-    let r = record_bytes (x ∷ xs) in
-    let room : nat_lt j.log.limit (j.log.end + (5 + length r)) ≡ false = le-ltb j.log.limit (j.log.end + (5 + length r)) may.room in
-    subst (λ (calls : List Call). BringsAbout t calls (possible_at j view.checkpoints) (recorded j (x ∷ xs)) view.checkpoints)
-    (sym (ap (λ b. changes_in (if b then [] else gate_ops j.log.area (j.log.end - 1) (behind_gate r))) room))
-    (record_brings t j view.checkpoints held (x ∷ xs) may)
+work_brings view (Records changes) t held may = record_brings t view.journal view.checkpoints held changes may
 work_brings view (Saves tuple state) t held may = save_brings t view.journal view.checkpoints held tuple state may
-work_brings view Compacts t held may =
-    let j = view.journal in
-    let r = compact_record j in
-    let room : nat_lt j.log.limit (22 + length r) ≡ false = le-ltb j.log.limit (22 + length r) (omega (arith, may.room)) in
-    subst (λ (calls : List Call). BringsAbout t calls (possible_at j view.checkpoints) (compacted_journal j) view.checkpoints)
-    (sym (ap (λ b. changes_in (if b then [] else renew_ops (other_of j.log.area) (area_body (j.log.generation + 1) (r ∷ [])) t)) room))
-    (compact_brings t j view.checkpoints held may)
+work_brings view Compacts t held may = compact_brings t view.journal view.checkpoints held may

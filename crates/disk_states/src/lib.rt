@@ -12,10 +12,10 @@ ghost use Rattle.mrp_config.specs.Config.{Config};
 ghost use Rattle.disk_model.specs.declared.areas.Areas.{Areas};
 ghost use Rattle.disk_model.specs.Calls.{Told, begun, and_then, reads};
 ghost use Rattle.disk_model.specs.Running.{changes_in};
-ghost use Rattle.gate_log.specs.Journal.{compact_calls};
 ghost use Rattle.vote_state.specs.declared.change.Change.{Change};
 ghost use Rattle.vote_state.specs.State.{nothing_kept};
-ghost use Rattle.vote_journal.specs.Journal.{Journal, record_calls, recorded, compact_record, compacted_journal};
+ghost use Rattle.vote_journal.specs.Journal.{Journal, recorded, compacted_journal};
+ghost use Rattle.vote_journal.specs.Operations.{record_ops, compaction_ops};
 ghost use Rattle.checkpoint.specs.Checkpoints.{Checkpoints, save_calls, saved};
 ghost use Rattle.protocol.specs.Lines.{Cause};
 ghost use Rattle.protocol.specs.Node.{View, Work, ops_of};
@@ -41,7 +41,7 @@ pub fn a_held_disk_stands_for_its_state()
 /// A record: wherever its calls are stopped each image stands for the state before or after it, with the checkpoint as before.
 pub fn a_record_is_whole_or_not()
     ensures { (t : Told) (j : Journal) (c : Checkpoints) → IsHeld j c t → (changes : List Change) → MayRecord j changes
-        → BringsAbout t (record_calls j changes) (possible_at j c) (recorded j changes) c }
+        → BringsAbout t (changes_in (record_ops j changes)) (possible_at j c) (recorded j changes) c }
 {}
 
 /// A save: each image stands for the old checkpoint or the new one, with the journal as before; once all is done the new one is
@@ -54,7 +54,7 @@ pub fn a_save_is_whole_or_not()
 /// A compaction: each image stands for the state as before.
 pub fn a_compaction_keeps_the_state()
     ensures { (t : Told) (j : Journal) (c : Checkpoints) → IsHeld j c t → MayCompact j
-        → BringsAbout t (compact_calls j.log (compact_record j) t) (possible_at j c) (compacted_journal j) c }
+        → BringsAbout t (changes_in (compaction_ops j t)) (possible_at j c) (compacted_journal j) c }
 {}
 
 /// The work of a step: wherever it is stopped, each image stands for the state before the step or for the one after it, and once

@@ -7,10 +7,7 @@ use Rattle.disk_model.specs.Steps.{Step, Put, Shrink, Flush, CanLeave, steps_on,
 use Rattle.disk_model.proofs.Bytes.{length-written, written-before, written-inside, written-behind}
 use Rattle.disk_model.proofs.OnArea.{only_image}
 use Rattle.gate_area.specs.Gate.{retire_steps, gate_steps, opened, OpenOrShut, FrontOrShort}
-
-take_none : (i : ℕ) → take i (let none : List Step = [] in none) ≡ []
-take_none zero = refl
-take_none (suc i) = refl
+use Rattle.disk_model.proofs.Went.{take_none}
 
 -- two lists with equal bytes below n, both at least so long
 fronts : (n : ℕ) (a b : List ℕ) → n ≤ length a → n ≤ length b → ((i : ℕ) → i < n → get_or a i 0 ≡ get_or b i 0) → take n a ≡ take n b

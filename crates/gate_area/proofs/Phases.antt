@@ -10,7 +10,7 @@ use Rattle.disk_model.specs.declared.call.Call.{Call}
 use Rattle.disk_model.specs.declared.call.Call.TheVariants.{Sync}
 use Rattle.disk_model.specs.Areas.{bytes_of}
 use Rattle.disk_model.specs.Calls.{Told, Tells, and_then, followed, LeavesOnly, IsImage, IsSettled, reads, kept}
-use Rattle.disk_model.proofs.Went.{and_then-and_then, and_none}
+use Rattle.disk_model.proofs.Went.{and_then-and_then, and_none, take_none}
 use Rattle.disk_model.proofs.OnArea.{settled-image}
 use Rattle.disk_model.proofs.CrashLaws.{new_can}
 use Rattle.disk_model.proofs.Reading.{reads-bytes, reading-kept, same_areas}
@@ -45,10 +45,6 @@ leaves_on t u p q P Q R first is second from_first from_second = record {
   where
     middle : u ≡ and_then t first.made
     middle = told_is (and_then t first.made) u p first.told is
-
-take_none : (i : ℕ) → take i (let none : List Call = [] in none) ≡ []
-take_none zero = refl
-take_none (suc i) = refl
 
 -- where no call was made and nothing is pending, a crash leaves what reads give
 pub stays_leaves : (t : Told) (now : Option Told) (P : Areas → Type 0) → now ≡ Some t → IsSettled t → P (reads t) → LeavesOnly t now P

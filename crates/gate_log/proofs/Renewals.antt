@@ -180,7 +180,7 @@ fresh_same before image fresh leaves = record {
 
 -- ---- a log whose other area is renewed
 
-number : (a : Area) (k : ℕ) (area : Area) (g : ℕ) → stood a k ≡ stood area g → k ≡ g
+pub number : (a : Area) (k : ℕ) (area : Area) (g : ℕ) → stood a k ≡ stood area g → k ≡ g
 number a k area g e = let pair : (let p : Area × ℕ = (a, k) in p) ≡ (let q : Area × ℕ = (area, g) in q) = cc in ap (λ (p : Area × ℕ). p.1) pair
 
 none_stands : (a b : Bool) (area : Area) (g : ℕ) → cond {A = Judgement} (not a) (Err (Journal0, 0)) (cond b (Err (Journal0, 0)) (Ok None)) ≡ stood area g → ⊥
@@ -283,7 +283,7 @@ apart Journal1 own = refl
 apart Check2 own = refl
 apart Check3 own = refl
 
-other_own : (area : Area) → (area ≡ Journal0) ⊎ (area ≡ Journal1) → (other_of area ≡ Journal0) ⊎ (other_of area ≡ Journal1)
+pub other_own : (area : Area) → (area ≡ Journal0) ⊎ (area ≡ Journal1) → (other_of area ≡ Journal0) ⊎ (other_of area ≡ Journal1)
 other_own area (inl first) = inr (ap other_of first)
 other_own area (inr second) = inl (ap other_of second)
 

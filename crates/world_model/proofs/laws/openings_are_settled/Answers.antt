@@ -21,14 +21,9 @@ use Rattle.disk_model.specs.Running.{Op, Asks, Reads, Does, changes_in}
 use Rattle.gate_area.specs.Operations.{gate_ops}
 use Rattle.world_model.specs.Opening.{Opening, Found, Kept, opening, finding_by, found_by, next_journal, judged_journal, opened_journal, opened_checks, checks_read, then_checks}
 use Rattle.world_model.proofs.laws.openings_are_settled.Goals as goal
+use Rattle.disk_model.proofs.Went.{changes-append}
 
 -- the changes of two lists of calls
-changes-append : (xs ys : List Op) → changes_in (xs ++ ys) ≡ changes_in xs ++ changes_in ys
-changes-append [] ys = refl
-changes-append (Asks ∷ xs) ys = changes-append xs ys
-changes-append (Reads ∷ xs) ys = changes-append xs ys
-changes-append (Does call ∷ xs) ys = ap (λ calls. call ∷ calls) (changes-append xs ys)
-
 reads_none : (n : ℕ) → changes_in (replicate n Reads) ≡ []
 reads_none zero = refl
 reads_none (suc n) = reads_none n
