@@ -10,13 +10,12 @@ use Rattle.mrp_types.specs.declared.voted.Decided.{Decided}
 use Rattle.command_codec.specs.Parts.{IsSpelled}
 use Rattle.range_map.specs.Entries.{value_at, IsIncreasingFrom, entries_from, IsNextHeld, IsNextRun, IsRunRound}
 use Rattle.range_map.proofs.SetLemmas.{le-true, le-false}
-use Rattle.range_map.proofs.EntryLemmas.{same_entries, value_at-entries_from, increasing_entries_from}
+use Rattle.range_map.proofs.EntryLemmas.{same_entries, value_at-entries_from, increasing_entries_from, value_here, value_later}
 use Rattle.vote_state.specs.declared.cast.Cast.{Cast}
 use Rattle.vote_state.specs.Ranges.{voted, ranges_of}
 use Rattle.vote_state.proofs.RangeLemmas.{no_next, first_skips, first_batch}
 use Rattle.plain_model.specs.Pages.{front_within}
 use Rattle.protocol.specs.Learner.{unballoted, decided_of, learned_ranges}
-use Rattle.protocol.proofs.EntryLemmas.{value_here, value_later}
 use Rattle.ring_learner.specs.Filled.{IsLearned}
 
 abbrev as_vote : ℕ × Value → ℕ × Cast

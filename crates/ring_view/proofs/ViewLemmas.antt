@@ -10,7 +10,6 @@ use Rattle.mrp_types.specs.declared.value.Value.{Value}
 use Rattle.mrp_types.specs.declared.voted.Voted.{Voted}
 use Rattle.mrp_types.specs.declared.voted.Decided.{Decided}
 use Rattle.range_map.proofs.SetLemmas.{le-true, le-false}
-use Rattle.vote_state.proofs.RangeLemmas.{eq-true, eq-false}
 use Rattle.ring_link.specs.Silence.{Link}
 use Rattle.frames.specs.declared.body.Body.{Body}
 use Rattle.frames.specs.declared.body.Body.TheVariants.{Accept, Decide}
@@ -27,6 +26,7 @@ use Rattle.range_map.specs.Entries.{entries_from}
 use Rattle.ring_view.specs.Kept.{OnlyRaises}
 use Rattle.ring_view.specs.Views.{IsViewOf, Shows, Adds, where_decided}
 use Rattle.ring_view.proofs.KeptLemmas.{promise_left, trim_left, votes_left}
+use Rattle.range_map.proofs.EntryLemmas.{eq-true, eq-false}
 
 module _ (view : RingView) (ring : Ring) (link : Link) (is : IsViewOf view ring link) where
   -- ---- frames
