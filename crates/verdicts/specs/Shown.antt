@@ -35,14 +35,21 @@ client_text client = spaced (codes "client") ++ number_text client.id.0 ++ space
 abbrev pub ring_text : RingTable → List ℕ
 ring_text ring = spaced (codes "ring") ++ number_text ring.id.0 ++ number_text ring.m ++ flat_map node_id_text ring.acceptors
 
--- its id, its home, its first key and the one past it, both quorums, and its three lists
+-- a name, and the ids of a list
+abbrev pub list_text : {A : Type 0} → (A → List ℕ) → List ℕ → List A → List ℕ
+list_text text name items = spaced name ++ flat_map text items
+
+-- its id, its home, its first key and the one past it
+unfoldable pub head_text : PartitionTable → List ℕ
+head_text p = spaced (codes "partition") ++ number_text p.id.0 ++ number_text p.home.0 ++ spaced (hex_text p.from) ++ spaced (hex_text p.to)
+
+unfoldable pub lists_text : PartitionTable → List ℕ
+lists_text p =
+    list_text node_id_text (codes "replicas") p.replicas ++ list_text ring_id_text (codes "rings") p.rings ++ list_text log_id_text (codes "logs") p.logs
+
+-- its head, both quorums, and its three lists
 abbrev pub partition_text : PartitionTable → List ℕ
-partition_text p =
-    spaced (codes "partition") ++ number_text p.id.0 ++ number_text p.home.0 ++ spaced (hex_text p.from) ++ spaced (hex_text p.to)
-    ++ number_text p.trim_quorum ++ number_text p.recovery_quorum
-    ++ spaced (codes "replicas") ++ flat_map node_id_text p.replicas
-    ++ spaced (codes "rings") ++ flat_map ring_id_text p.rings
-    ++ spaced (codes "logs") ++ flat_map log_id_text p.logs
+partition_text p = head_text p ++ number_text p.trim_quorum ++ number_text p.recovery_quorum ++ lists_text p
 
 -- the round of a ring that isn't there, and the other numbers of the top
 abbrev pub numbers_of : Config → List ℕ

@@ -2,7 +2,7 @@
 
 ghost use Rattle.std.specs.Prelude.{◌≡◌, ◌++◌, OnOk, IfOk};
 ghost use Rattle.std.specs.List.{flat_map};
-ghost use Rattle.verdicts.specs.Shown.{number_text, node_id_text, ring_id_text, log_id_text, node_text, client_text, ring_text, partition_text, shown_text, numbers_of as numbers_of_lem};
+ghost use Rattle.verdicts.specs.Shown.{number_text, node_id_text, ring_id_text, log_id_text, node_text, client_text, ring_text, partition_text, list_text, head_text, lists_text, shown_text, numbers_of as numbers_of_lem};
 
 use crate::faults::said;
 use mrp_config::{ClientTable, Deployment, NodeTable, PartitionTable, RingTable};
@@ -88,20 +88,38 @@ impl Shown for PartitionTable {
     ghost text = { partition_text };
 
     fn put(&self, out: &mut Octets) -> Result<(), Memory> {
-        put_word(out, b"partition")?;
-        put_number(out, u64::from(self.id.0))?;
-        self.home.put(out)?;
-        put_bytes(out, self.from.bytes())?;
-        put_bytes(out, self.to.bytes())?;
+        put_head(out, self)?;
         put_number(out, u64::from(self.trim_quorum))?;
         put_number(out, u64::from(self.recovery_quorum))?;
-        put_word(out, b"replicas")?;
-        put_all(out, self.replicas.items())?;
-        put_word(out, b"rings")?;
-        put_all(out, self.rings.items())?;
-        put_word(out, b"logs")?;
-        put_all(out, self.logs.items())
+        put_lists(out, self)
     }
+}
+
+#[tactic(auto, unfolding(crate::specs::Shown::head_text))]
+fn put_head(out: &mut Octets, p: &PartitionTable) -> Result<(), Memory>
+    ensures { OnOk result (out.new ≡ out.old ++ head_text p.now) }
+{
+    put_word(out, b"partition")?;
+    put_number(out, u64::from(p.id.0))?;
+    p.home.put(out)?;
+    put_bytes(out, p.from.bytes())?;
+    put_bytes(out, p.to.bytes())
+}
+
+#[tactic(auto, unfolding(crate::specs::Shown::lists_text))]
+fn put_lists(out: &mut Octets, p: &PartitionTable) -> Result<(), Memory>
+    ensures { OnOk result (out.new ≡ out.old ++ lists_text p.now) }
+{
+    put_list(out, b"replicas", p.replicas.items())?;
+    put_list(out, b"rings", p.rings.items())?;
+    put_list(out, b"logs", p.logs.items())
+}
+
+fn put_list<T: Shown>(out: &mut Octets, name: &[u8], items: &[T]) -> Result<(), Memory>
+    ensures { OnOk result (out.new ≡ out.old ++ list_text T.text name.now items.now) }
+{
+    put_word(out, name)?;
+    put_all(out, items)
 }
 
 fn put_all<T: Shown>(out: &mut Octets, items: &[T]) -> Result<(), Memory>

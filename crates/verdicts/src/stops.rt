@@ -143,13 +143,17 @@ fn left(alloc: Global, end: End, disk: SimDisk) -> Result<Octets, Memory> {
 }
 
 fn reads_left(disk: &mut SimDisk) -> u32 {
-    let mut into = [0; 1];
     for turn in 0..MOST {
-        if disk.read(Area::Check2, 0, &mut into).is_err() {
+        if !reads_once(disk) {
             return turn;
         }
     }
     MOST
+}
+
+fn reads_once(disk: &mut SimDisk) -> bool {
+    let mut into = [0; 1];
+    disk.read(Area::Check2, 0, &mut into).is_ok()
 }
 
 fn syncs_left(disk: &mut SimDisk) -> u32 {
