@@ -1,7 +1,7 @@
 -- What a disk tells, from one call to the next.
-use Rattle.std.proofs.Common.{◌≡◌, ℕ, Bool, List, [], ◌++◌, take, Option, None, Some, refl, ap, sym, ◌∙◌, append_assoc, inl, inr, length-take, arith, subst}
+use Rattle.std.proofs.Common.{◌≡◌, ℕ, Bool, List, ◌++◌, take, Option, None, Some, refl, ap, sym, ◌∙◌, append_assoc, inl, inr, length-take, arith, subst}
 use Rattle.std.proofs.lemmas.Bool.{cases_lt}
-use Rattle.std.proofs.lemmas.List.{append-nil, take_all, take-take}
+use Rattle.std.proofs.lemmas.List.{take_all, take-take}
 use Rattle.disk_model.specs.declared.areas.Areas.{Areas}
 use Rattle.disk_model.specs.declared.call.Call.{Call}
 use Rattle.disk_model.specs.Calls.{Told, Tells, and_then, followed, made_by, MakesFirst, LeavesOnly, IsImage}
@@ -13,14 +13,6 @@ followed-followed (Some t) xs ys = ap (λ cs. Some (let u : Told = record { star
 -- further calls after some
 pub goes_on : (o p q : Option Told) (xs ys : List Call) → p ≡ followed o xs → q ≡ followed p ys → q ≡ followed o (xs ++ ys)
 goes_on o p q xs ys first second = second ∙ ap (λ x. followed x ys) first ∙ followed-followed o xs ys
-
-followed-none : (o : Option Told) → o ≡ followed o []
-followed-none None = refl
-followed-none (Some t) = ap (λ cs. Some (let u : Told = record { start = t.start; calls = cs } in u)) (sym (append-nil t.calls))
-
--- no call yet
-pub begins : (o p : Option Told) → p ≡ o → p ≡ followed o []
-begins o p same = same ∙ followed-none o
 
 -- calls that don't depend on what is told
 pub made_plain : (o : Option Told) (calls : List Call) → followed o calls ≡ made_by (λ t. calls) o

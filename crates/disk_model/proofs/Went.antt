@@ -8,8 +8,8 @@ use Rattle.disk_model.specs.declared.areas.Areas.{Areas}
 use Rattle.disk_model.specs.declared.call.Call.{Call}
 use Rattle.disk_model.specs.declared.disk.Disk.{Ghosts}
 use Rattle.disk_model.specs.Calls.{Told, Tells, and_then, followed, made_by, LeavesOnly, IsImage}
-use Rattle.disk_model.specs.Causes.{Causes, Wants}
-use Rattle.disk_model.specs.Running.{Op, Asks, Reads, Does, Ending, Passed, Wanted, refused_ending, ending, is_stopped, is_wanted, changes_in, Did, Came}
+use Rattle.disk_model.specs.Causes.{Causes}
+use Rattle.disk_model.specs.Running.{Op, Asks, Reads, Does, Ending, Passed, Wanted, refused_ending, ending, is_stopped, changes_in, Did, Came}
 use Rattle.disk_model.specs.Sim.{Sim}
 use Rattle.disk_model.specs.Went.{changes, Rises, WentBy}
 use Rattle.disk_model.proofs.Telling.{leaves_only, told_before}
@@ -104,11 +104,6 @@ causes_rise : {T : Type 0} (before now : ℕ) (r : Result T Refused) → Causes 
 causes_rise before now (Ok x) causes = record { later = causes.later; rose = λ no. absurd cc; kept = λ is. causes.kept }
 causes_rise before now (Err Failed) causes = record { later = causes.later; rose = λ is. causes.failed refl; kept = λ no. absurd cc }
 causes_rise before now (Err Memory) causes = record { later = causes.later; rose = λ no. absurd cc; kept = λ is. causes.memory refl }
-
-wants_rise : {T : Type 0} (before now : ℕ) (r : Result T Refused) → Wants before now r → Rises before now (is_wanted (ending r))
-wants_rise before now (Ok x) wants = record { later = wants.later; rose = λ no. absurd cc; kept = λ is. wants.kept }
-wants_rise before now (Err Failed) wants = record { later = wants.later; rose = λ no. absurd cc; kept = λ is. wants.failed refl }
-wants_rise before now (Err Memory) wants = record { later = wants.later; rose = λ is. wants.memory refl; kept = λ no. absurd cc }
 
 -- ---- one operation
 

@@ -33,11 +33,6 @@ is_stopped Passed = false
 is_stopped Stopped = true
 is_stopped Wanted = false
 
-abbrev pub is_wanted : Ending → Bool
-is_wanted Passed = false
-is_wanted Stopped = false
-is_wanted Wanted = true
-
 -- whether a plan of faults falls on an operation
 abbrev pub falls_on : Plan → Op → Bool
 falls_on plan Asks = falls_on_len plan

@@ -22,18 +22,15 @@ use Rattle.world_model.specs.Opening.{Found, found_in, found_by, finding_by, che
 use Rattle.disk_states.specs.States.{HaveRecords}
 use Rattle.disk_states.proofs.Moments.{AtEach, at_none, at_sync, renew_leaves, renew_settles}
 use Rattle.disk_states.proofs.Renewing.{walked, fresh_held}
+use Rattle.disk_model.proofs.Went.{reads_change}
 
 -- ---- the calls among the operations
-
-reads_none : (n : ℕ) → changes_in (replicate n Reads) ≡ []
-reads_none zero = refl
-reads_none (suc n) = reads_none n
 
 -- the checkpoints are only read
 pub checks_none : (areas : Areas) (j : Judgement) → changes_in (checks_read areas j) ≡ []
 checks_none areas (Err spot) = refl
 checks_none areas (Ok None) = refl
-checks_none areas (Ok (Some (area, generation))) = reads_none (length (bytes_of area areas) / 65536 + 1)
+checks_none areas (Ok (Some (area, generation))) = reads_change (length (bytes_of area areas) / 65536 + 1)
 
 -- a fresh pair gets a journal without records, after a sync; nothing is done where one stands
 abbrev pub finding_calls : Option (Area × ℕ) → Areas → List Call
@@ -42,7 +39,7 @@ finding_calls (Some standing) areas = Sync ∷ []
 
 finding_are : (standing : Option (Area × ℕ)) (areas : Areas) → changes_in (finding_by areas (Ok standing)) ≡ finding_calls standing areas
 finding_are None areas = refl
-finding_are (Some (area, generation)) areas = ap (λ calls. Sync ∷ calls) (reads_none (length (bytes_of area areas) / 65536 + 1))
+finding_are (Some (area, generation)) areas = ap (λ calls. Sync ∷ calls) (reads_change (length (bytes_of area areas) / 65536 + 1))
 
 -- ---- what is found
 

@@ -1,4 +1,4 @@
-use Rattle.std.proofs.Common.{◌≡◌, ℕ, zero, suc, ◌+◌, ◌-◌, ◌/◌, nat_lt, Bool, true, false, if◌then◌else◌, List, [], ◌∷◌, ◌++◌, length, replicate, Option, None, Some, Result, Ok, Err, refl, ap, sym, subst, ◌∙◌}
+use Rattle.std.proofs.Common.{◌≡◌, ℕ, ◌+◌, ◌-◌, ◌/◌, nat_lt, Bool, true, false, if◌then◌else◌, List, [], ◌∷◌, ◌++◌, length, Option, None, Some, Result, Ok, Err, refl, ap, sym, subst, ◌∙◌}
 use Rattle.std.proofs.lemmas.List.{append-nil, append_assoc}
 use Rattle.mrp_types.specs.declared.id.NodeId.{NodeId}
 use Rattle.mrp_config.specs.Config.{Config}
@@ -9,6 +9,7 @@ use Rattle.disk_model.specs.declared.call.Call.TheVariants.{Write, Sync}
 use Rattle.disk_model.specs.Areas.{bytes_of}
 use Rattle.disk_model.specs.Calls.{Told, and_then, IsSettled}
 use Rattle.disk_model.proofs.OnArea.{settled-sync}
+use Rattle.disk_model.proofs.Went.{changes-append, reads_change}
 use Rattle.gate_area.specs.declared.pair.Pair.TheVariants.{Journal as JournalPair, Check as CheckPair}
 use Rattle.gate_area.specs.Standing.{stands}
 use Rattle.gate_log.specs.Records.{behind_gate}
@@ -17,21 +18,15 @@ use Rattle.vote_state.specs.State.{State}
 use Rattle.vote_journal.specs.declared.fault.OpenFault.{OpenFault}
 use Rattle.vote_journal.specs.Journal.{Journal, state_of, opened_state, epoch_record}
 use Rattle.protocol.specs.Lines.{Cause, Full}
-use Rattle.disk_model.specs.Running.{Op, Asks, Reads, Does, changes_in}
+use Rattle.disk_model.specs.Running.{Op, changes_in}
 use Rattle.gate_area.specs.Operations.{gate_ops}
 use Rattle.world_model.specs.Opening.{Opening, Found, Kept, opening, finding_by, found_by, next_journal, judged_journal, opened_journal, opened_checks, checks_read, then_checks}
 use Rattle.world_model.proofs.laws.openings_are_settled.Goals as goal
-use Rattle.disk_model.proofs.Went.{changes-append}
-
--- the changes of two lists of calls
-reads_none : (n : ℕ) → changes_in (replicate n Reads) ≡ []
-reads_none zero = refl
-reads_none (suc n) = reads_none n
 
 readings_none : (areas : Areas) (standing : Result (Option (Area × ℕ)) (Area × ℕ)) → changes_in (checks_read areas standing) ≡ []
 readings_none areas (Err spot) = refl
 readings_none areas (Ok None) = refl
-readings_none areas (Ok (Some (area, generation))) = reads_none (length (bytes_of area areas) / 65536 + 1)
+readings_none areas (Ok (Some (area, generation))) = reads_change (length (bytes_of area areas) / 65536 + 1)
 
 -- the last of the changes is a sync
 EndsSynced : List Op → Type 0
