@@ -1,6 +1,6 @@
 -- The row of Accept, case by case.
-use Rattle.std.proofs.Common.{◌≡◌, ℕ, zero, suc, ◌+◌, ◌-◌, ◌<◌, ◌≤◌, true, false, Bool, ◌&&◌, List, [], ◌∷◌, ◌++◌, length, refl, sym, ◌∙◌, ap, subst, arith, append_assoc}
-use Rattle.std.specs.Prelude.{◌==◌, nat_lt, not, bit_and, bit_or, if◌then◌else◌, option_map, Option, Some, None}
+use Rattle.std.proofs.Common.{◌≡◌, ℕ, zero, suc, ◌-◌, ◌<◌, ◌≤◌, true, false, Bool, List, [], ◌++◌, refl, sym, ◌∙◌, ap, arith, append_assoc}
+use Rattle.std.specs.Prelude.{◌==◌, bit_and, bit_or, if◌then◌else◌, option_map, Option, Some, None}
 use Rattle.std.proofs.lemmas.List.{append-nil}
 use Rattle.mrp_types.specs.declared.value.Value.{Value}
 use Rattle.mrp_types.specs.declared.voted.Voted.{Voted}
@@ -11,18 +11,17 @@ use Rattle.range_map.proofs.SetLemmas.{le-true}
 use Rattle.range_map.proofs.EntryLemmas.{value_at-entries_from}
 use Rattle.vote_state.specs.declared.cast.Cast.{Cast}
 use Rattle.vote_state.specs.declared.change.Change.{Change}
-use Rattle.vote_state.specs.Ranges.{cast_of, is_cast, each_held, are_held}
+use Rattle.vote_state.specs.Ranges.{cast_of, each_held, are_held}
 use Rattle.vote_state.specs.State.{State, trim_at, votes_at, has_vote}
 use Rattle.vote_state.proofs.RangeLemmas.{eq-true, eq-false}
 use Rattle.ring_link.specs.Silence.{Link}
 use Rattle.frames.specs.declared.sent.Sent.{Sent}
 use Rattle.protocol.specs.Parts.{Ring, Part, Effects}
-use Rattle.protocol.specs.Rings.{owner_of, bit_of, has_bit, position_of}
+use Rattle.protocol.specs.Rings.{owner_of, bit_of, position_of}
 use Rattle.protocol.specs.Effects.{no_effects}
-use Rattle.protocol.specs.Learner.{decided_of}
 use Rattle.protocol.specs.Acceptor.{promises, votes_for, promises_anew, votes_anew, refuses, tells_trim, decides_or_forwards, accepts_at, accepts}
 use Rattle.ring_view.specs.Kept.{OnlyRaises}
-use Rattle.ring_view.specs.Views.{Shows, Adds, where_decided}
+use Rattle.ring_view.specs.Views.{Shows, Adds}
 use Rattle.ring_view.proofs.ViewLemmas.{shown_votes, onward_changes, onward_frames, onward_learned}
 use Rattle.acceptor.proofs.PrepareLemmas.{lt-true, lt-false}
 

@@ -1,6 +1,6 @@
 -- The row of Prepare, case by case.
-use Rattle.std.proofs.Common.{◌≡◌, ℕ, ◌+◌, ◌-◌, ◌<◌, ◌≤◌, max, true, false, Bool, List, [], ◌∷◌, ◌++◌, length, refl, sym, ◌∙◌, ap, subst, arith}
-use Rattle.std.specs.Prelude.{nat_lt, not, if◌then◌else◌, Option, Some, None}
+use Rattle.std.proofs.Common.{◌≡◌, ℕ, ◌<◌, ◌≤◌, max, true, false, List, [], ◌∷◌, ◌++◌, sym, ◌∙◌, ap, arith}
+use Rattle.std.specs.Prelude.{nat_lt, Some}
 use Rattle.std.proofs.lemmas.Bool.Decides.{nat_tests}
 use Rattle.std.proofs.lemmas.List.{append-nil}
 use Rattle.mrp_types.specs.declared.id.NodeId.{NodeId}
@@ -11,12 +11,10 @@ use Rattle.range_map.specs.Entries.{entries_from}
 use Rattle.vote_state.specs.declared.cast.Cast.{Cast}
 use Rattle.vote_state.specs.declared.change.Change.{Change}
 use Rattle.vote_state.specs.declared.change.Change.TheVariants as changes
-use Rattle.vote_state.specs.declared.ring.RingState.{RingState}
 use Rattle.vote_state.specs.Ranges.{ranges_of}
 use Rattle.vote_state.specs.State.{State, trim_at, votes_from}
 use Rattle.ring_link.specs.Silence.{Link}
 use Rattle.plain_model.specs.Pages.{left_out}
-use Rattle.frames.specs.declared.body.Body.{Body}
 use Rattle.frames.specs.declared.body.Body.TheVariants.{Promise}
 use Rattle.frames.specs.declared.sent.Sent.{Sent}
 use Rattle.protocol.specs.Parts.{Ring, Part}
@@ -24,7 +22,7 @@ use Rattle.protocol.specs.Rings.{is_node, owner_of, sends}
 use Rattle.protocol.specs.Acceptor.{refuses, votes_page, page_end, promise_of, prepares}
 use Rattle.ring_view.specs.Kept.{OnlyRaises}
 use Rattle.ring_view.specs.Views.{Shows, Adds}
-use Rattle.ring_view.proofs.ViewLemmas.{shown_trim, shown_votes}
+use Rattle.ring_view.proofs.ViewLemmas.{shown_votes}
 
 pub lt-true : (a b : ℕ) → a < b → nat_lt a b ≡ true
 lt-true a b h = grind (arith, nat_tests)
