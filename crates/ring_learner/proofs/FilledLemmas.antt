@@ -1,6 +1,6 @@
 -- Ranges of which the instances that are held stay as they are.
 use Rattle.std.proofs.Common.{◌≡◌, ℕ, zero, suc, ◌+◌, ◌-◌, ◌^◌, ◌<◌, ◌≤◌, max, true, false, ◌&&◌, List, [], ◌∷◌, ◌++◌, refl, sym, ◌∙◌, ap, subst, arith, inl, inr}
-use Rattle.std.specs.Prelude.{◌⊎◌, Option, Some, None, IsSome, IsNone, Bool, not, nat_eq, nat_le, nat_lt, if◌then◌else◌}
+use Rattle.std.specs.Prelude.{◌⊎◌, Option, Some, None, IsSome, Bool, nat_eq, nat_le, nat_lt, if◌then◌else◌}
 use Rattle.std.specs.List.{AllByRecursion}
 use Rattle.std.proofs.lemmas.Bool.{cases_lt}
 use Rattle.mrp_types.specs.declared.value.Value.{Value}
@@ -13,7 +13,6 @@ use Rattle.vote_state.proofs.RangeLemmas.{not_true}
 use Rattle.vote_state.proofs.StateLemmas.{filter_all, append_all}
 use Rattle.protocol.specs.Parts.{Learner}
 use Rattle.protocol.specs.Learner.{entries_within, front_at, past_front, met_over, with_met, first_of, with_range_learned, is_held, first_gap}
-use Rattle.protocol.specs.Meaning.{Meets, AreHeld}
 use Rattle.protocol.proofs.EntryLemmas.{meets, held, gap}
 use Rattle.ring_learner.specs.Filled.{IsLearned, AreLearned, Fills}
 

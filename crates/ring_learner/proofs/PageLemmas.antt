@@ -1,12 +1,11 @@
 -- What is held as maximal ranges, one after another: they are those of votes of one ballot.
-use Rattle.std.proofs.Common.{◌≡◌, ℕ, suc, ◌+◌, ◌-◌, ◌<◌, ◌≤◌, true, false, Bool, List, [], ◌∷◌, ◌++◌, map, refl, sym, ◌∙◌, ap, subst, arith, inl, inr}
-use Rattle.std.specs.Prelude.{◌⊎◌, Option, Some, None, IsSome, is_some, option_map, nat_le, if◌then◌else◌}
+use Rattle.std.proofs.Common.{◌≡◌, ℕ, suc, ◌+◌, ◌-◌, ◌<◌, ◌≤◌, List, [], ◌∷◌, map, refl, sym, ◌∙◌, ap, subst, arith, inl, inr}
+use Rattle.std.specs.Prelude.{Option, Some, None, IsSome, option_map, nat_le, if◌then◌else◌}
 use Rattle.std.specs.List.{AllByRecursion}
 use Rattle.std.proofs.lemmas.Bool.{cases_lt, cases_eq}
 use Rattle.mrp_types.specs.declared.value.Value.{Value}
 use Rattle.mrp_types.specs.declared.value.Value.TheVariants.{Skip, Batch}
 use Rattle.mrp_types.specs.declared.voted.Voted.{Voted}
-use Rattle.mrp_types.specs.declared.voted.Decided.{Decided}
 use Rattle.command_codec.specs.Parts.{IsSpelled}
 use Rattle.range_map.specs.Entries.{value_at, IsIncreasingFrom, entries_from, IsNextHeld, IsNextRun, IsRunRound}
 use Rattle.range_map.proofs.SetLemmas.{le-true, le-false}

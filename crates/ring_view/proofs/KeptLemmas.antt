@@ -1,6 +1,6 @@
 -- What changes leave of a ring.
-use Rattle.std.proofs.Common.{◌≡◌, ℕ, suc, ◌<◌, ◌≤◌, true, false, Bool, List, [], ◌∷◌, ◌++◌, refl, sym, ◌∙◌, ap, subst, arith, inl, inr}
-use Rattle.std.specs.Prelude.{nat_eq, nat_le, if◌then◌else◌}
+use Rattle.std.proofs.Common.{◌≡◌, ℕ, ◌≤◌, true, false, Bool, List, [], ◌∷◌, refl, ◌∙◌, ap, arith, inl, inr}
+use Rattle.std.specs.Prelude.{nat_eq, if◌then◌else◌}
 use Rattle.std.proofs.lemmas.Bool.{cases_lt}
 use Rattle.mrp_types.specs.declared.id.RingId.{RingId}
 use Rattle.range_map.specs.Entries.{entries_from}
@@ -9,7 +9,7 @@ use Rattle.vote_state.specs.declared.change.Change.{Change}
 use Rattle.vote_state.specs.declared.change.Change.TheVariants.{Epoch, Promise, Vote, Trim}
 use Rattle.vote_state.specs.declared.ring.RingState.{RingState}
 use Rattle.vote_state.specs.State.{promise_after, trim_after, trim_by, with_promise, with_vote, with_trim}
-use Rattle.ring_kept.specs.Kept.{kept_by, kept_after}
+use Rattle.ring_kept.specs.Kept.{kept_after}
 use Rattle.ring_view.specs.Kept.{OnlyRaises}
 
 module _ {T : Type 0} where

@@ -6,7 +6,6 @@ use Rattle.mrp_types.specs.declared.id.NodeId.{NodeId}
 use Rattle.mrp_types.specs.declared.id.RingId.{RingId}
 use Rattle.mrp_types.specs.Seats.{seat_of}
 use Rattle.mrp_types.specs.declared.members.RingView.{RingView}
-use Rattle.mrp_types.specs.declared.value.Value.{Value}
 use Rattle.mrp_types.specs.declared.voted.Voted.{Voted}
 use Rattle.mrp_types.specs.declared.voted.Decided.{Decided}
 use Rattle.range_map.proofs.SetLemmas.{le-true, le-false}
@@ -15,7 +14,7 @@ use Rattle.frames.specs.declared.body.Body.{Body}
 use Rattle.frames.specs.declared.body.Body.TheVariants.{Accept, Decide}
 use Rattle.frames.specs.declared.sent.Sent.{Sent}
 use Rattle.protocol.specs.Parts.{Ring, Part, Effects}
-use Rattle.protocol.specs.Rings.{owner_of, position_of, bit_of, majority_of, next_acceptor, next_member, is_beyond, sent_by, sends}
+use Rattle.protocol.specs.Rings.{owner_of, position_of, bit_of, majority_of, next_acceptor, is_beyond, sent_by, sends}
 use Rattle.protocol.specs.Effects.{no_effects, with_frames}
 use Rattle.protocol.specs.Learner.{decided_of}
 use Rattle.protocol.specs.Acceptor.{first_decide, decides, decides_or_forwards}

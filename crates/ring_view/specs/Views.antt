@@ -1,5 +1,5 @@
 -- What a call has in its hands of a ring: its view, a durable state, and the changes and frames of the step so far.
-use Rattle.std.specs.Prelude.{◌≡◌, ℕ, Bool, true, false, List, [], ◌∷◌, ◌++◌, length}
+use Rattle.std.specs.Prelude.{◌≡◌, Bool, true, false, List, [], ◌∷◌, ◌++◌, length}
 use Rattle.mrp_types.specs.declared.members.RingView.{RingView}
 use Rattle.mrp_types.specs.declared.voted.Decided.{Decided}
 use Rattle.vote_state.specs.declared.change.Change.{Change}

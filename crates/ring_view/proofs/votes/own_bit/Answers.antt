@@ -1,5 +1,4 @@
 use Rattle.std.proofs.Common.{◌∙◌, ℕ, ap, Some, None}
-use Rattle.std.specs.Prelude.{Option}
 use Rattle.ring_view.proofs.ViewLemmas.{own_bit_of}
 use Rattle.ring_view.proofs.votes.own_bit.Goals as goal
 
