@@ -16,7 +16,7 @@ use Rattle.checkpoint.specs.Checkpoints.{is_after, part_of}
 use Rattle.plain_model.specs.Replicas.{Replica}
 use Rattle.plain_model.specs.StateBytes.{state_of, state_bytes}
 use Rattle.plain_model.specs.Tuples.{round_sizes, is_tuple_of}
-use Rattle.ring_link.specs.Silence.{Link, with_heard, with_tick}
+use Rattle.ring_link.specs.Silence.{with_heard, with_tick}
 use Rattle.vote_state.specs.declared.change.Change.{Change}
 use Rattle.vote_journal.specs.Journal.{Journal, recorded}
 use Rattle.protocol.specs.Lines.{Learn, Refuse}
@@ -33,9 +33,9 @@ use Rattle.protocol.specs.Ballots.{is_active}
 use Rattle.protocol.specs.Bases.{rebases}
 use Rattle.protocol.specs.Learning.{Queued, with_effects, queued, proposes_then, by_news, learns_taken, learns_one, then_learns, learns_up_to, applies_effects}
 use Rattle.protocol.specs.Merging.{place_of, merges}
-use Rattle.protocol.specs.Recovery.{epoch_of, asks_part, chooses, chooses_if_quorum, begins, restores, is_of, is_of_choice, takes_answer, answered_by, restores_or_begins, with_more, part_for, takes_part, gone_for, takes_gone, tells_checkpoint, answer_part, tells_part, safe_of, asks_missing, ends_attempt, ticks_attempt, recovery_ticks}
+use Rattle.protocol.specs.Recovery.{epoch_of, asks_part, chooses, begins, is_of, is_of_choice, takes_answer, answered_by, restores_or_begins, with_more, part_for, takes_part, gone_for, takes_gone, tells_checkpoint, answer_part, tells_part, safe_of, asks_missing, ends_attempt, ticks_attempt, recovery_ticks}
 use Rattle.protocol.specs.Step.{waits_below, begins_if_waits_below, after_trim, recovers_if_trimmed, at_member, at_acceptor, is_for, handles_trim_at, handles_trim, handles_submit, tells_safe, at_service, at_attempt, recovering, handles_body, handles_from, step}
-use Rattle.protocol.specs.Tick.{saves, is_due_to_save, saves_stage, saves_first, is_due_to_compact, compacts, rules_at, rules_for, ticks_ring, ticks_rings, fetches_at, fetches_place, fetches_stage, fetches_missing, greets, recovery_ticks_at, asks_on_beat, beats_with, beats, or_compacts, ticks}
+use Rattle.protocol.specs.Tick.{saves, is_due_to_save, saves_stage, saves_first, is_due_to_compact, compacts, rules_at, rules_for, ticks_ring, ticks_rings, fetches_at, fetches_stage, fetches_missing, recovery_ticks_at, asks_on_beat, beats, or_compacts, ticks}
 use Rattle.disk_states.specs.Works.{journal_after, checkpoints_after}
 use Rattle.bare_ties.proofs.Keeping.{Keeps, merges_keep, restores_keep, chooses_keep, quorum_keeps, begins_keep}
 

@@ -15,7 +15,7 @@ use Rattle.frames.specs.declared.sent.Sent.{Sent}
 use Rattle.vote_state.specs.declared.change.Change.{Change}
 use Rattle.vote_journal.specs.Journal.{Journal, recorded}
 use Rattle.protocol.specs.Lines.{Line, Begin, Chose, Restore, AttemptLimit}
-use Rattle.protocol.specs.Node.{StepSoFar, Service, Stage, Recovering, Ready, Standing, Attempt, Choice, View, Stepped, begun_with, finished, prints, sends_all, with_stage}
+use Rattle.protocol.specs.Node.{StepSoFar, Service, Stage, Recovering, Ready, Standing, Attempt, Choice, View, begun_with, finished, prints, sends_all, with_stage}
 use Rattle.protocol.specs.Merging.{value_at_place, place_of, takes_place, merges_place, merges_stage, merges_service, merges_up_to, merges}
 use Rattle.protocol.specs.Recovery.{epoch_of, own_tuple, others_of, lowers, restores, restores_read, installs_own, best_of, asks_part, gathers, chooses, chooses_best, chooses_if_quorum, asks_checkpoint, begins_next, begins}
 use Rattle.protocol.specs.Opening.{view_of, begins_first, opened}

@@ -1,4 +1,4 @@
-mod Keeping
-mod Changing
-mod Stepping
-mod Opening
+pub mod Keeping
+pub mod Changing
+pub mod Stepping
+pub mod Opening

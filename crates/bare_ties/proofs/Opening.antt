@@ -10,8 +10,6 @@ use Rattle.disk_model.specs.Running.{Op, ran}
 use Rattle.disk_model.specs.Sim.{Sim}
 use Rattle.disk_model.proofs.Running.{all_told, some_told}
 use Rattle.vote_state.specs.State.{State}
-use Rattle.vote_journal.specs.Journal.{Journal}
-use Rattle.checkpoint.specs.Checkpoints.{Checkpoints}
 use Rattle.protocol.specs.Lines.{Cause}
 use Rattle.protocol.specs.Opening.{opened}
 use Rattle.bare_world.specs.Worlds.{Possible, chosen}
@@ -20,11 +18,11 @@ use Rattle.world_model.specs.Disks.{cause_of, settled, restarted}
 use Rattle.world_model.specs.Opening.{Kept, opening}
 use Rattle.world_model.specs.Worlds.{Down, World, opened_where, opens, comes_back}
 use Rattle.disk_states.specs.States.{StandsFor, AllStandFor, IsHeld}
-use Rattle.disk_states.specs.Openings.{raised, opening_calls, HasOpened}
+use Rattle.disk_states.specs.Openings.{raised, opening_calls}
 use Rattle.disk_states.proofs.Opening.{opening_stopped, opening_last, opening_opened}
 use Rattle.bare_ties.specs.Ties.{UpTies, DownTies, OpenEnds, Opened, Failed}
-use Rattle.bare_ties.proofs.Keeping.{IsOpened, opened_keeps}
-use Rattle.bare_ties.proofs.Stepping.{IsOwn, up_with, settled_held}
+use Rattle.bare_ties.proofs.Keeping.{opened_keeps}
+use Rattle.bare_ties.proofs.Stepping.{up_with, settled_held}
 
 -- what an opening that failed has left
 record Leaves (id : NodeId) (t : Told) (stood : Possible) : Type 0 where

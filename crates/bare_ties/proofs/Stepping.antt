@@ -1,10 +1,10 @@
 -- A step of a node on its disk, under any plan of faults.
-use Rattle.std.proofs.Common.{◌≡◌, ℕ, ◌<◌, ◌^◌, Bool, true, false, List, [], ◌∷◌, take, refl, ap, sym, ◌∙◌, subst, arith}
+use Rattle.std.proofs.Common.{◌≡◌, ◌<◌, ◌^◌, Bool, true, false, List, [], ◌∷◌, refl, ap, sym, ◌∙◌, subst}
 use Rattle.std.specs.List.{AllByRecursion}
 use Rattle.mrp_types.specs.declared.id.NodeId.{NodeId}
 use Rattle.mrp_config.specs.Config.{Config}
 use Rattle.disk_model.specs.declared.call.Call.{Call}
-use Rattle.disk_model.specs.Calls.{Told, and_then}
+use Rattle.disk_model.specs.Calls.{Told}
 use Rattle.disk_model.specs.Running.{Op, ran, changes_in}
 use Rattle.disk_model.specs.Sim.{Sim}
 use Rattle.disk_model.proofs.Running.{all_told, some_told}

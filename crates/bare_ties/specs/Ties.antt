@@ -1,5 +1,5 @@
 -- What ties a node on its disk to a node without bytes, and what a step and an opening of it come to.
-use Rattle.std.specs.Prelude.{◌≡◌, ◌<◌, ◌^◌, ℕ, List, [], ◌∷◌, ◌++◌}
+use Rattle.std.specs.Prelude.{◌≡◌, ◌<◌, ◌^◌, List, [], ◌∷◌, ◌++◌}
 use Rattle.mrp_types.specs.declared.id.NodeId.{NodeId}
 use Rattle.mrp_config.specs.Config.{Config}
 use Rattle.disk_model.specs.Calls.{Told}

@@ -1,5 +1,5 @@
 -- What an opening finds of a journal, or begins where there is none.
-use Rattle.std.proofs.Common.{◌≡◌, ◌⊎◌, inl, inr, ℕ, ◌+◌, ◌/◌, ◌≤◌, zero, suc, List, [], ◌∷◌, ◌++◌, length, replicate, Option, None, Some, Result, Ok, Err, refl, ap, sym, ◌∙◌, subst, arith}
+use Rattle.std.proofs.Common.{◌≡◌, inl, ℕ, ◌+◌, ◌/◌, ◌≤◌, zero, suc, List, [], ◌∷◌, ◌++◌, length, replicate, Option, None, Some, Result, Ok, Err, refl, ap, sym, subst, arith}
 use Rattle.disk_model.specs.declared.area.Area.{Area}
 use Rattle.disk_model.specs.declared.area.Area.TheVariants.{Journal0}
 use Rattle.disk_model.specs.declared.areas.Areas.{Areas}
@@ -13,7 +13,7 @@ use Rattle.gate_area.specs.declared.pair.Pair.TheVariants.{Journal}
 use Rattle.gate_area.specs.Gate.{renew_calls, RenewLeaves}
 use Rattle.gate_area.specs.Standing.{stands}
 use Rattle.gate_log.specs.Records.{walk_of, area_body}
-use Rattle.gate_log.specs.Journal.{Log, Holds, log_of, in_area, records_of}
+use Rattle.gate_log.specs.Journal.{Log, Holds, log_of, records_of}
 use Rattle.gate_log.specs.Moments.{ChecksStay}
 use Rattle.gate_log.proofs.Moves.{Judgement, checks_stay}
 use Rattle.gate_log.proofs.Renewals.{length-body, fresh_holds, renewed}

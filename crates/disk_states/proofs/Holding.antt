@@ -1,7 +1,6 @@
 -- Which records areas hold, and that these stay where their areas do.
-use Rattle.std.proofs.Common.{◌≡◌, ◌⊎◌, inl, inr, ℕ, arith, List, [], length, Option, None, Some, Result, Ok, Err, refl, ap, sym, ◌∙◌, subst}
+use Rattle.std.proofs.Common.{◌≡◌, inl, inr, ℕ, arith, List, [], length, None, Some, Result, Ok, Err, refl, ap, sym, ◌∙◌, subst}
 use Rattle.disk_model.specs.declared.area.Area.{Area}
-use Rattle.disk_model.specs.declared.area.Area.TheVariants.{Journal0, Journal1}
 use Rattle.disk_model.specs.declared.areas.Areas.{Areas}
 use Rattle.disk_model.specs.Areas.{bytes_of}
 use Rattle.gate_area.specs.declared.pair.Head.TheVariants.{Closed}
@@ -11,7 +10,7 @@ use Rattle.gate_area.specs.Gate.{IsClosed}
 use Rattle.gate_area.specs.Standing.{stands, standing, head_of}
 use Rattle.gate_area.proofs.Heads.{head-shut}
 use Rattle.gate_log.specs.Records.{StandsFor as Spells, walk_of}
-use Rattle.gate_log.specs.Journal.{Log, Holds, in_area, records_of, records_in}
+use Rattle.gate_log.specs.Journal.{Log, Holds, in_area, records_of}
 use Rattle.gate_log.proofs.Moves.{Judgement, records_are, own_area, e_area}
 use Rattle.disk_states.specs.States.{HaveRecords}
 

@@ -1,5 +1,5 @@
 -- How an opening judges the checkpoint that it has read.
-use Rattle.std.proofs.Common.{◌≡◌, ◌⊎◌, inl, inr, ℕ, ◌+◌, Bool, true, false, if◌then◌else◌, List, length, Option, None, Some, Result, Ok, Err, refl, ap, sym, ◌∙◌, subst}
+use Rattle.std.proofs.Common.{◌≡◌, ℕ, ◌+◌, Bool, true, false, if◌then◌else◌, length, Option, None, Some, Result, Ok, Err, refl, ap, sym, ◌∙◌, subst}
 use Rattle.disk_model.specs.declared.area.Area.{Area}
 use Rattle.disk_model.specs.declared.area.Area.TheVariants.{Check2, Check3}
 use Rattle.disk_model.specs.declared.areas.Areas.{Areas}
@@ -13,7 +13,7 @@ use Rattle.plain_model.specs.Tuples.{round_sizes, is_tuple_of}
 use Rattle.checkpoint.specs.Checkpoints.{Checkpoint, Checkpoints, no_checkpoints, checkpoints_in, place}
 use Rattle.bare_world.specs.Runs.{IsReadable}
 use Rattle.world_model.specs.Opening.{judged_state, judged_newest, judged_for}
-use Rattle.disk_states.proofs.Saving.{standing_at, StandsAt, Standings, Fresh, First, Second, standings}
+use Rattle.disk_states.proofs.Saving.{standing_at, Standings, Fresh, First, Second, standings}
 
 -- the newest checkpoint of a replica is one of its partition
 abbrev pub AreReadable : Config → Option PartitionTable → Option Checkpoint → Type 0

@@ -1,5 +1,5 @@
 -- An opening on areas that stand for a possible state.
-use Rattle.std.proofs.Common.{◌≡◌, ◌≢◌, ◌⊎◌, inl, inr, ℕ, ◌+◌, ◌-◌, ◌<◌, ◌≤◌, ◌^◌, ◌==◌, nat_lt, Bool, true, false, if◌then◌else◌, List, [], ◌∷◌, ◌++◌, length, take, Option, None, Some, Result, Ok, Err, refl, ap, sym, ◌∙◌, subst, arith, append-nil}
+use Rattle.std.proofs.Common.{◌≡◌, ◌≢◌, ◌⊎◌, inl, inr, ℕ, ◌+◌, ◌-◌, ◌<◌, ◌^◌, ◌==◌, nat_lt, Bool, true, false, if◌then◌else◌, List, [], ◌∷◌, ◌++◌, length, take, Result, Ok, Err, refl, ap, sym, ◌∙◌, subst, arith, append-nil}
 use Rattle.std.proofs.lemmas.Bool.{eqb-true, ltb-false, ltb-true}
 use Rattle.std.proofs.lemmas.Bool.Decides.{eqb_tells}
 use Rattle.mrp_types.specs.declared.id.NodeId.{NodeId}
@@ -23,7 +23,7 @@ use Rattle.vote_journal.specs.declared.fault.OpenFault.TheVariants.{EpochLimit}
 use Rattle.vote_journal.specs.Journal.{Journal, next_epoch, epoch_record, opened_state, opened_end}
 use Rattle.vote_journal.proofs.Openings.{raised, opened_stands}
 use Rattle.checkpoint.specs.Checkpoints.{Checkpoints, checkpoints_in}
-use Rattle.protocol.specs.Lines.{Cause, Full, Disk}
+use Rattle.protocol.specs.Lines.{Cause, Full}
 use Rattle.bare_world.specs.Worlds.{Possible}
 use Rattle.world_model.specs.Opening.{Opening as Openings, Kept, Found, opening, opening_by, finding_by, opened_journal, judged_journal, next_journal, with_epoch, then_opens, judged_for, judged_checkpoints, found_checkpoints, checks_read, kept_of}
 use Rattle.disk_states.specs.States.{HaveRecords, StandsFor, AllStandFor, IsHeld}

@@ -1,5 +1,5 @@
 -- A fresh pair is given a journal without records.
-use Rattle.std.proofs.Common.{◌≡◌, ◌≢◌, ℕ, ◌+◌, ◌<◌, ◌≤◌, inl, inr, Bool, true, false, cond, nat_lt, List, [], ◌∷◌, ◌++◌, length, take, drop, get_or, zero, suc, Option, None, Some, Result, Ok, Err, refl, ap, sym, ◌∙◌, subst, arith, length-drop}
+use Rattle.std.proofs.Common.{◌≡◌, ◌≢◌, ℕ, ◌+◌, ◌<◌, inl, inr, Bool, true, false, cond, nat_lt, List, [], ◌∷◌, length, take, drop, get_or, zero, suc, None, Result, Ok, Err, ap, sym, ◌∙◌, arith, length-drop}
 use Rattle.std.proofs.lemmas.Bool.Decides.{eqb_tells}
 use Rattle.std.proofs.lemmas.List.{append-nil, get_or-drop}
 use Rattle.std.proofs.lemmas.List.Elements.{All-nil}
@@ -10,7 +10,7 @@ use Rattle.disk_model.specs.Areas.{bytes_of}
 use Rattle.gate_area.specs.declared.pair.Pair.TheVariants.{Journal}
 use Rattle.gate_area.specs.Gate.{RenewLeaves}
 use Rattle.gate_area.specs.Standing.{stands}
-use Rattle.gate_log.specs.Records.{Mark, Shut, Opens, Broken, u32_of, mark_behind, mark_of, preceded, record_at, by_mark, records_from, walk_of, area_body, IsShort, StandsFor as Spells}
+use Rattle.gate_log.specs.Records.{Shut, Opens, Broken, u32_of, mark_behind, preceded, record_at, by_mark, records_from, walk_of, area_body, IsShort, StandsFor as Spells}
 use Rattle.gate_log.specs.Journal.{in_area, records_of, records_in}
 use Rattle.gate_log.proofs.Renewals.{fresh_leaves}
 use Rattle.disk_states.specs.States.{HaveRecords}

@@ -1,14 +1,13 @@
 -- A save: the areas of the checkpoints stand for the old one or for the new one.
-use Rattle.std.proofs.Common.{◌≡◌, ◌⊎◌, inl, inr, ℕ, ◌+◌, ◌-◌, ◌<◌, ◌≤◌, ◌^◌, List, [], ◌∷◌, length, Option, None, Some, Result, Ok, Err, refl, ap, sym, ◌∙◌, subst, arith}
+use Rattle.std.proofs.Common.{◌≡◌, ◌⊎◌, inl, inr, ℕ, ◌+◌, List, ◌∷◌, length, Option, None, Some, Result, Ok, Err, refl, ap, sym, ◌∙◌, subst, arith}
 use Rattle.mrp_types.specs.declared.id.RingId.{RingId}
 use Rattle.disk_model.specs.declared.area.Area.{Area}
 use Rattle.disk_model.specs.declared.area.Area.TheVariants.{Journal0, Journal1, Check2, Check3}
 use Rattle.disk_model.specs.declared.areas.Areas.{Areas}
 use Rattle.disk_model.specs.Areas.{bytes_of}
 use Rattle.gate_area.specs.declared.pair.Pair.TheVariants.{Check}
-use Rattle.gate_area.specs.declared.pair.Head.TheVariants.{Closed}
 use Rattle.gate_area.specs.Gate.{OthersStay, FrontOrShort, IsClosed, RenewLeaves}
-use Rattle.gate_area.specs.Standing.{stands, standing, head_of}
+use Rattle.gate_area.specs.Standing.{stands, standing}
 use Rattle.gate_area.proofs.Heads.{head-short, head-front}
 use Rattle.gate_log.specs.Moments.{ChecksStay}
 use Rattle.gate_log.proofs.Moves.{Judgement, stood}
@@ -16,7 +15,7 @@ use Rattle.checkpoint.specs.Spelling.{checkpoint_body}
 use Rattle.checkpoint.specs.Checkpoints.{Checkpoint, Checkpoints, no_checkpoints, read_area, checkpoints_at, checkpoints_of, checkpoints_in, next_area, saved}
 use Rattle.disk_states.specs.Works.{MaySave}
 use Rattle.disk_states.proofs.Holding.{JournalStays, closed_head}
-use Rattle.disk_states.proofs.Pairs.{no_area, own_check, StaysOrCloses, none_stays, none_next, first_stays, first_next, second_stays, second_next}
+use Rattle.disk_states.proofs.Pairs.{own_check, StaysOrCloses, none_stays, none_next, first_stays, first_next, second_stays, second_next}
 use Rattle.disk_states.proofs.Spelling.{IsFounded, founded_head, read_back}
 
 -- ---- what the areas stand for

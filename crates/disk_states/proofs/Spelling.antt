@@ -1,23 +1,22 @@
 -- A checkpoint that was written is read back.
-use Rattle.std.proofs.Common.{◌≡◌, ℕ, ◌+◌, ◌-◌, ◌<◌, ◌≤◌, ◌^◌, ◌==◌, nat_eq, nat_lt, Bool, true, false, cond, if◌then◌else◌, List, [], ◌∷◌, ◌++◌, length, take, drop, inl, inr, Result, Ok, Err, refl, ap, sym, ◌∙◌, arith, length-append, append-nil}
-use Rattle.std.specs.Int.{from_be_bytes, w64}
+use Rattle.std.proofs.Common.{◌≡◌, ℕ, ◌<◌, ◌≤◌, ◌^◌, nat_eq, nat_lt, false, cond, if◌then◌else◌, List, [], ◌∷◌, ◌++◌, length, take, drop, inl, inr, Ok, refl, ap, sym, ◌∙◌, arith, length-append}
+use Rattle.std.specs.Int.{w64}
 use Rattle.std.proofs.lemmas.Bool.{le-leb, le-ltb}
 use Rattle.std.proofs.lemmas.Bool.Decides.{eqb_tells}
 use Rattle.std.proofs.lemmas.List.{take_at, take_all, drop_at, drop_all, drop-drop}
 use Rattle.mrp_types.specs.declared.id.RingId.{RingId}
 use Rattle.mrp_types.specs.Tuples.{IsTuple}
 use Rattle.command_codec.specs.Fields.{u64_bytes}
-use Rattle.command_codec.specs.Reader.{Spot, number_at, bytes_at}
+use Rattle.command_codec.specs.Reader.{bytes_at}
 use Rattle.command_codec.proofs.ReaderLaws.{wide64, number_law}
 use Rattle.command_codec.proofs.Sizes.{length-u64_bytes}
-use Rattle.frames.specs.Spelling.{tuple_bytes}
-use Rattle.frames.specs.Grammar.{tuple_at, all_of}
+use Rattle.frames.specs.Grammar.{all_of}
 use Rattle.frames.proofs.ListLaws.{tuple_law}
 use Rattle.gate_area.specs.declared.pair.Pair.TheVariants.{Check}
 use Rattle.gate_area.specs.declared.pair.Head.TheVariants.{Closed, Spoilt, Open}
 use Rattle.gate_area.specs.Standing.{head_in, head_of, generation_of}
 use Rattle.checkpoint.specs.Spelling.{checkpoint_bytes, checkpoint_body}
-use Rattle.checkpoint.specs.Checkpoints.{Checkpoint, checkpoint_at, placed, read_from, is_newer, behind_format, read_area}
+use Rattle.checkpoint.specs.Checkpoints.{checkpoint_at, placed, read_from, is_newer, behind_format, read_area}
 
 -- what an area is that was founded with a checkpoint
 abbrev pub IsFounded : ℕ → List (RingId × ℕ) → List ℕ → List ℕ → Type 0

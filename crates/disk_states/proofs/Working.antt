@@ -1,22 +1,20 @@
 -- The work of a step: wherever it is stopped, each image stands for the state before the step or after it.
-use Rattle.std.proofs.Common.{◌≡◌, ◌⊎◌, inl, inr, ℕ, ◌+◌, ◌-◌, ◌<◌, ◌≤◌, ◌^◌, nat_lt, Bool, true, false, if◌then◌else◌, List, [], ◌∷◌, ◌++◌, length, Option, None, Ok, refl, ap, sym, ◌∙◌, subst, arith, length-append}
-use Rattle.std.specs.List.{AllByRecursion, flat_map}
+use Rattle.std.proofs.Common.{◌≡◌, ◌⊎◌, inl, inr, ℕ, ◌+◌, ◌-◌, ◌<◌, ◌≤◌, ◌^◌, nat_lt, false, if◌then◌else◌, List, [], ◌∷◌, ◌++◌, length, Option, None, Ok, refl, ap, sym, ◌∙◌, subst, arith, length-append}
 use Rattle.std.proofs.lemmas.Bool.{le-ltb}
 use Rattle.std.proofs.lemmas.List.Concat.{flat_map-cons}
 use Rattle.mrp_types.specs.declared.id.NodeId.{NodeId}
 use Rattle.mrp_types.specs.declared.id.RingId.{RingId}
-use Rattle.command_codec.specs.Fields.{u32_bytes, u64_bytes}
-use Rattle.command_codec.proofs.ReaderLaws.{wide32, wide64}
+use Rattle.command_codec.specs.Fields.{u32_bytes}
+use Rattle.command_codec.proofs.ReaderLaws.{wide32}
 use Rattle.disk_model.specs.declared.areas.Areas.{Areas}
 use Rattle.disk_model.specs.declared.call.Call.{Call}
 use Rattle.disk_model.specs.Calls.{Told, begun, and_then, reads}
 use Rattle.disk_model.specs.Running.{changes_in}
-use Rattle.gate_area.specs.Gate.{renew_calls}
 use Rattle.gate_area.specs.Operations.{gate_ops, renew_ops}
 use Rattle.gate_area.specs.Standing.{other_of}
 use Rattle.gate_area.proofs.Pairs.{gate_settles}
 use Rattle.gate_area.proofs.Phases.{reads_image}
-use Rattle.gate_log.specs.Records.{behind_gate, area_body, end_of, IsShort}
+use Rattle.gate_log.specs.Records.{behind_gate, area_body, IsShort}
 use Rattle.gate_log.specs.Journal.{appended, compacted}
 use Rattle.gate_log.specs.Moments.{ChecksStay}
 use Rattle.gate_log.proofs.Moves.{stood, append_holds, append_calls}
@@ -24,8 +22,7 @@ use Rattle.gate_log.proofs.Renewals.{IsRenewed, renewed}
 use Rattle.vote_state.specs.declared.change.Change.{Change}
 use Rattle.vote_state.specs.declared.change.Change.TheVariants.{Epoch, Promise, Vote, Trim}
 use Rattle.gate_log.specs.Journal.{records_in}
-use Rattle.vote_state.specs.State.{State, taken, nothing_kept, state_changes}
-use Rattle.vote_state.specs.Valid.{IsChange}
+use Rattle.vote_state.specs.State.{State, nothing_kept, state_changes}
 use Rattle.vote_state.proofs.MadeAgain.{state_made}
 use Rattle.vote_state.proofs.ValidLemmas.{state_valid}
 use Rattle.vote_journal.specs.Spelling.{change_bytes, changes_bytes, named_bytes, record_bytes, first_bytes}

@@ -46,15 +46,15 @@ use Rattle.line_runs.proofs.Fitting.{valid_fits}
 -- ---- one value of all learn lines is what each learn line's agreement with the book is
 
 -- a value of the book is that of a learn line
-record LearnedLine (lines : List Line) (ring : RingId) (inst : ℕ) (value : Value) : Type 0 where
-  by_node : NodeId
-  lo : ℕ
-  hi : ℕ
-  there : Has lines (Learn by_node ring lo hi value)
-  from : lo ≤ inst
-  to : inst < hi
+pub record LearnedLine (lines : List Line) (ring : RingId) (inst : ℕ) (value : Value) : Type 0 where
+  pub by_node : NodeId
+  pub lo : ℕ
+  pub hi : ℕ
+  pub there : Has lines (Learn by_node ring lo hi value)
+  pub from : lo ≤ inst
+  pub to : inst < hi
 
-book_line : (lines : List Line) (ring : RingId) (inst : ℕ) (value : Value) → book lines ring inst ≡ Some value → LearnedLine lines ring inst value
+pub book_line : (lines : List Line) (ring : RingId) (inst : ℕ) (value : Value) → book lines ring inst ≡ Some value → LearnedLine lines ring inst value
 book_line [] ring inst value e = absurd (cc)
 book_line (l ∷ lines) ring inst value e = by_book (book lines ring inst) refl e (λ f. book_line lines ring inst value f)
   where
@@ -102,7 +102,7 @@ has_past (k ∷ new) before l h = elim (has_past new (k ∷ before) l h) [
   | inr (inr there) ↦ inr there
 ]
 
-in_order : (lines : List Line) (l : Line) → Has (past [] lines) l → Has lines l
+pub in_order : (lines : List Line) (l : Line) → Has (past [] lines) l → Has lines l
 in_order lines l h = elim (has_past lines [] l h) [
   | inl there ↦ there
   | inr none ↦ absurd none
@@ -238,10 +238,14 @@ frame_covered c hs r sent from to body ring trim has is e = go body (body_said c
 
 -- ---- ready replicas
 
+-- what is so of a replica that is up
+pub service_lines : (c : Config) (hs : List Happening) → IsRun c hs → (n : ℕ) (view : View) (service : Service) → host_of c hs n ≡ Up view → view.service ≡ Some service
+    → ServiceLines c (latest_first (lines_of c hs)) (node n) view.journal.state.epoch view.checkpoints.newest service
+service_lines c hs r n view service up there =
+    let u : UpLines c (past [] (lines_of c hs)) n view = subst (λ (host : Host). HostLines c (past [] (lines_of c hs)) n host) up ((run_lines c hs r).hosts n) in
+    subst (λ (o : Option Service). ReplicaLines c (past [] (lines_of c hs)) (node n) view.journal.state.epoch view.checkpoints.newest o) there u.replica
+
 pub ready_lines : (c : Config) (hs : List Happening) → IsRun c hs → (n : ℕ) (view : View) (service : Service) (standing : Standing) → host_of c hs n ≡ Up view → view.service ≡ Some service → service.stage ≡ Ready standing
     → ReadyLines c (latest_first (lines_of c hs)) (node n) view.checkpoints.newest service.partition standing.tuple standing.delivered
 ready_lines c hs r n view service standing up there is =
-    let u : UpLines c (past [] (lines_of c hs)) n view = subst (λ (host : Host). HostLines c (past [] (lines_of c hs)) n host) up ((run_lines c hs r).hosts n) in
-    let s : ServiceLines c (past [] (lines_of c hs)) (node n) view.journal.state.epoch view.checkpoints.newest service =
-    subst (λ (o : Option Service). ReplicaLines c (past [] (lines_of c hs)) (node n) view.journal.state.epoch view.checkpoints.newest o) there u.replica in
-    subst (λ (st : Stage). StageLines c (past [] (lines_of c hs)) (node n) view.journal.state.epoch view.checkpoints.newest service.partition st) is s.stage
+    subst (λ (st : Stage). StageLines c (past [] (lines_of c hs)) (node n) view.journal.state.epoch view.checkpoints.newest service.partition st) is (service_lines c hs r n view service up there).stage

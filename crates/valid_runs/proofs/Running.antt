@@ -123,7 +123,7 @@ module _ (config : Config) (deployed : AreNumbered config) where
 
   -- ---- a happening
 
-  event_valid : (w : World) (id : NodeId) (event : Event) → MayCome w id event → WorldValid config w → EventValid event
+  pub event_valid : (w : World) (id : NodeId) (event : Event) → MayCome w id event → WorldValid config w → EventValid event
   event_valid w id Ticks may v = tt
   event_valid w id (Takes frame) may v = frame_valid w.frames v.frames _ frame may
   event_valid w id (Leads ring) may v = tt

@@ -1,0 +1,9 @@
+pub mod Lookups
+pub mod Going
+pub mod Tying
+pub mod Nodes
+pub mod Frames
+pub mod Tuples
+pub mod Works
+pub mod Whole
+pub mod Readable
