@@ -8,12 +8,11 @@ use Rattle.mrp_types.specs.declared.voted.Decided.{Decided}
 use Rattle.mrp_types.specs.declared.members.RingView.{RingView}
 use Rattle.range_map.specs.Entries.{value_at, entries_from}
 use Rattle.range_map.proofs.SetLemmas.{le-true}
-use Rattle.range_map.proofs.EntryLemmas.{value_at-entries_from}
+use Rattle.range_map.proofs.EntryLemmas.{value_at-entries_from, eq-true, eq-false}
 use Rattle.vote_state.specs.declared.cast.Cast.{Cast}
 use Rattle.vote_state.specs.declared.change.Change.{Change}
 use Rattle.vote_state.specs.Ranges.{cast_of, each_held, are_held}
 use Rattle.vote_state.specs.State.{State, trim_at, votes_at, has_vote}
-use Rattle.vote_state.proofs.RangeLemmas.{eq-true, eq-false}
 use Rattle.ring_link.specs.Silence.{Link}
 use Rattle.frames.specs.declared.sent.Sent.{Sent}
 use Rattle.protocol.specs.Parts.{Ring, Part, Effects}
