@@ -1,1 +1,1 @@
-mod Onward
+pub mod Onward

@@ -6,16 +6,9 @@ use Rattle.bare_world.specs.Worlds as bare
 use Rattle.bare_world.specs.Runs.{MayHappen, run, MayRun}
 use Rattle.world_model.specs.Worlds.{World, Outcome, quiet, and_then, for_each}
 use Rattle.disk_runs.specs.Runs.{WorldTies, world_after, GoesOn}
+use Rattle.bare_world.proofs.Onward.{run_both, may_both}
 
 -- a run goes on where another one ended
-pub run_both : (config : Config) (w : bare.World) (first second : List bare.Happening) → run config (first ++ second) w ≡ run config second (run config first w)
-run_both config w [] second = refl
-run_both config w (h ∷ first) second = run_both config (bare.happens config h w) first second
-
-pub may_both : (config : Config) (w : bare.World) (first second : List bare.Happening) → MayRun config w first → MayRun config (run config first w) second → MayRun config w (first ++ second)
-may_both config w [] second a b = b
-may_both config w (h ∷ first) second a b = (a.0, may_both config (bare.happens config h w) first second a.1 b)
-
 module _ (config : Config) where
   -- a word goes on from wherever a run has come
   abbrev pub Goes : (World → Outcome) → Type 0

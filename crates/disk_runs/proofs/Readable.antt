@@ -27,9 +27,9 @@ use Rattle.disk_states.proofs.Opening.{opening_full}
 use Rattle.bare_ties.proofs.Changing.{step_by}
 use Rattle.bare_ties.proofs.Keeping.{opened_keeps}
 use Rattle.disk_runs.specs.Runs.{NodeTies, WorldTies, world_after, FailsFull}
-use Rattle.disk_runs.proofs.Going.{run_both, may_both}
 use Rattle.disk_runs.proofs.Tying.{same_node}
 use Rattle.disk_runs.proofs.Works.{IsSave, IsOfStep, of_step, sound_of, own_of, tuple_of}
+use Rattle.bare_world.proofs.Onward.{run_both, may_both}
 
 -- a replica's checkpoint is one of its partition
 abbrev Readable : Config → NodeId → Option Checkpoint → Type 0

@@ -63,8 +63,8 @@ restores_read config service tuple None a = a
 restores_read config service tuple (Some replica) a = restores config service tuple replica a
 
 -- The own checkpoint is installed; the state of zeros is empty. Its bytes are a state: an opening has judged those that it found,
--- and what was saved since is the written form of this node's own state. A valid state is read back as it was written; that
--- what a replica keeps in a run is valid isn't proved yet. Where the bytes were no state, nothing would happen here.
+-- and what was saved since is the written form of this node's own state. A valid state is read back as it was written, and
+-- what a replica keeps in a run is valid. Where the bytes were no state, nothing would happen here.
 abbrev pub installs_own : Config → Service → Option Checkpoint → StepSoFar → StepSoFar
 installs_own config service None a = restores config service (first_tuple service.partition.rings) (empty_replica service.partition) a
 installs_own config service (Some newest) a = restores_read config service newest.tuple (state_of service.partition newest.state) a
