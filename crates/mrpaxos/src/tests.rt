@@ -65,18 +65,6 @@ fn source(alloc: Global, bytes: &[u8], fail: &[u64]) -> Result<MemSource, Fail> 
     Ok(MemSource::new(Octets::from_slice(alloc, bytes)?, fail.to_vec(alloc)?))
 }
 
-// A run: its words; what is written over in the configuration of three nodes; the input; which calls fail; and the number and
-// the text of its status and the lines that are wanted.
-type Case<'a> = (
-    &'a str,
-    (&'a str, &'a str),
-    &'a str,
-    Failing<'a>,
-    u8,
-    &'a str,
-    &'a str,
-);
-
 fn outcome(
     alloc: Global,
     command: &str,
@@ -104,235 +92,125 @@ fn edited(alloc: Global, old: &str, new: &str) -> Result<String, Fail> {
     Ok(format!(in alloc; "{before}{new}{after}")?)
 }
 
-// What the first case that ends otherwise ends with.
-fn first_other(alloc: Global, cases: &[Case<'_>]) -> Result<Option<String>, Fail> {
-    for (command, (old, new), schedule, failing, number, text, lines) in cases {
-        let config = edited(alloc, old, new)?;
-        let ended = outcome(
-            alloc,
-            command,
-            config.as_str(),
-            schedule.as_bytes(),
-            *failing,
-        )?;
-        if ended.number != *number
-            || ended.text.bytes() != text.as_bytes()
-            || ended.lines.bytes() != lines.as_bytes()
-        {
-            let told = format!(in alloc; "{command:?} {new:?} {schedule:?}: {ended:?}")?;
-            return Ok(Some(told));
-        }
-    }
-    Ok(None)
+// Each outcome, a run a line: the words of the command; what is written over in the configuration, and by what; the input; which
+// call fails; and behind ` => ` the number and the text of the status, and the lines. Bars part these, and a line feed within one is `\n`.
+const CASES: &str = "\
+    replay||||- => 0||end 0\\n\n\
+    replay|||ask 0 append 0 6869\\nflow 100\\n|- => 0||@first\n\
+    replay|||ask 0 append 0 6869\\nflow 2\\nlist 2\\nlist 9\\n|- => 0||@listed\n\
+    replay|||ask 0 append 0 6869\\nlose 1\\nflow 100\\n|- => 0||end 3\\n\n\
+    replay|acceptors = [0, 1, 2]|acceptors = [2, 0, 1]|ask 0 append 0 6869\\nlist 0\\nflow 2\\nlist 1\\n|- => 0||@other\n\
+    replay|||flow x\\n|- => 3|input 1 number|\n\
+    replay|||ask 0 append 9 61\\n|- => 3|input 1 route|\n\
+    replay|||flow 1\\ntick all\\n|- => 3|input 2 word|\n\
+    replay|||flow 1|- => 3|input 1 cut|\n\
+    replay|||flow 0\\n|- => 3|input 1 range|\n\
+    replay|||flow 1 \\n|- => 3|input 1 left|\n\
+    replay|m = 1|m = 0|flow x\\n|- => 2|config 4 m|\n\
+    replay|m = 1|m = 1\\ncolour = 1|flow x\\n|- => 2|config 10 colour|\n\
+    replay|m = 1||flow x\\n|- => 2|config 2 m|\n\
+    replay|trim_quorum = 2|trim_quorum = 1|flow x\\n|- => 2|config 7 0|\n\
+    replay|to = \"\"|to = \"80\"|flow x\\n|- => 2|config 8 0|\n\
+    replay|{ id = 1, a|{ id = 0, a|flow x\\n|- => 2|config 5 node.id 0|\n\
+    replay|m = 1|=|flow x\\n|- => 2|config 1|\n\
+    replay|lambda = 0|lambda = 1|flow x\\n|- => 2|config 13|\n\
+    replay|replicas = [0, 1, 2]|replicas = [0, 1]|flow x\\n|- => 2|config 13|\n\
+    replay|ring = [|ring = [{ id = 0, acceptors = [0, 1, 2] }, { id = 1, acceptors = [1] }]\\n#|flow x\\n|- => 2|config 13|\n\
+    gen 1 0||||input => 0||\n\
+    gen 1 3||||input => 0||flow 1000\\ntick all\\nflow 1000\\n\n\
+    gen 18446744073709551615 2|lambda = 0|lambda = 1||input => 0||flow 1000\\ntick all\\n\n\
+    gen 1 3|m = 1|=||- => 2|config 1|\n\
+    replay|||ask 0 append 0 6869\\nflow 2\\nflow 1\\n|config => 4|source config|\n\
+    replay|||ask 0 append 0 6869\\nflow 2\\nflow 1\\n|input 1 => 4|source input|\n\
+    replay|||ask 0 append 0 6869\\nflow 2\\nflow 1\\n|out => 5|sink|\n\
+    gen 1 3||||config => 4|source config|\n\
+    gen 1 3||||out => 5|sink|\n\
+    ||||- => 1|usage|\n\
+    replay x||||- => 1|usage|\n\
+    Replay||||- => 1|usage|\n\
+    audit||||- => 1|usage|\n\
+    gen||||- => 1|usage|\n\
+    gen 1||||- => 1|usage|\n\
+    gen 1 2 3||||- => 1|usage|\n\
+    gen 01 3||||- => 1|usage|\n\
+    gen x 3||||- => 1|usage|\n\
+    gen 1 1048577||||- => 1|usage|\n\
+    gen 18446744073709551616 3||||- => 1|usage|\n\
+    Gen 1 3||||- => 1|usage|";
+
+// What stands before the first bar, and what behind it.
+fn cut(text: &str) -> (&str, &str) {
+    text.split_once('|').unwrap_or((text, ""))
 }
 
-// Of each outcome, by command, configuration, input and failing calls.
+fn failing_of(word: &str) -> Failing<'static> {
+    match word {
+        "config" => Failing {
+            config: &[0],
+            ..NONE
+        },
+        "input" => Failing {
+            input: &[0],
+            ..NONE
+        },
+        "input 1" => Failing {
+            input: &[1],
+            ..NONE
+        },
+        "out" => Failing { out: &[0], ..NONE },
+        _ => NONE,
+    }
+}
+
+// The lines that a word stands for, or themselves.
+fn lines_of(alloc: Global, text: &str) -> Result<String, Fail> {
+    let lines = match text {
+        "@first" => FIRST,
+        "@listed" => LISTED,
+        "@other" => OTHER,
+        _ => text,
+    };
+    Ok(lines.replace(alloc, "\\n", "\n")?)
+}
+
+// Runs what a line before its number says.
+fn ended_by(alloc: Global, run: &str) -> Result<Ended, Fail> {
+    let (command, rest) = cut(run);
+    let (old, rest) = cut(rest);
+    let (new, rest) = cut(rest);
+    let (input, failing) = cut(rest);
+    let config = edited(alloc, old, lines_of(alloc, new)?.as_str())?;
+    let input = lines_of(alloc, input)?;
+    outcome(
+        alloc,
+        command,
+        config.as_str(),
+        input.as_bytes(),
+        failing_of(failing),
+    )
+}
+
+// Whether it ended with the number, the text and the lines of the line's end.
+fn ends_so(alloc: Global, ended: &Ended, wanted: &str) -> Result<bool, Fail> {
+    let (number, rest) = cut(wanted);
+    let (text, lines) = cut(rest);
+    let lines = lines_of(alloc, lines)?;
+    Ok(
+        number.parse::<u8>() == Ok(ended.number)
+            && ended.text.bytes() == text.as_bytes()
+            && ended.lines.bytes() == lines.as_bytes(),
+    )
+}
+
 #[test]
 fn runs_and_their_ends(rt: HostRuntime) -> Result<(), Fail> {
-    const SAME: (&str, &str) = ("", "");
-    const ASKED: &str = "ask 0 append 0 6869\nflow 2\nflow 1\n";
-    let no_config = Failing {
-        config: &[0],
-        ..NONE
-    };
-    let no_input = Failing {
-        input: &[0],
-        ..NONE
-    };
-    let input_stops = Failing {
-        input: &[1],
-        ..NONE
-    };
-    let no_write = Failing { out: &[0], ..NONE };
-    let reversed = ("acceptors = [0, 1, 2]", "acceptors = [2, 0, 1]");
-    let two_rings = (
-        "ring = [",
-        "ring = [{ id = 0, acceptors = [0, 1, 2] }, { id = 1, acceptors = [1] }]\n#",
-    );
-    let cases: [Case<'_>; 42] = [
-        ("replay", SAME, "", NONE, 0, "", "end 0\n"),
-        (
-            "replay",
-            SAME,
-            "ask 0 append 0 6869\nflow 100\n",
-            NONE,
-            0,
-            "",
-            FIRST,
-        ),
-        (
-            "replay",
-            SAME,
-            "ask 0 append 0 6869\nflow 2\nlist 2\nlist 9\n",
-            NONE,
-            0,
-            "",
-            LISTED,
-        ),
-        (
-            "replay",
-            SAME,
-            "ask 0 append 0 6869\nlose 1\nflow 100\n",
-            NONE,
-            0,
-            "",
-            "end 3\n",
-        ),
-        (
-            "replay",
-            reversed,
-            "ask 0 append 0 6869\nlist 0\nflow 2\nlist 1\n",
-            NONE,
-            0,
-            "",
-            OTHER,
-        ),
-        ("replay", SAME, "flow x\n", NONE, 3, "input 1 number", ""),
-        (
-            "replay",
-            SAME,
-            "ask 0 append 9 61\n",
-            NONE,
-            3,
-            "input 1 route",
-            "",
-        ),
-        (
-            "replay",
-            SAME,
-            "flow 1\ntick all\n",
-            NONE,
-            3,
-            "input 2 word",
-            "",
-        ),
-        ("replay", SAME, "flow 1", NONE, 3, "input 1 cut", ""),
-        ("replay", SAME, "flow 0\n", NONE, 3, "input 1 range", ""),
-        ("replay", SAME, "flow 1 \n", NONE, 3, "input 1 left", ""),
-        // A configuration at fault comes before an input at fault.
-        (
-            "replay",
-            ("m = 1", "m = 0"),
-            "flow x\n",
-            NONE,
-            2,
-            "config 4 m",
-            "",
-        ),
-        (
-            "replay",
-            ("m = 1", "m = 1\ncolour = 1"),
-            "flow x\n",
-            NONE,
-            2,
-            "config 10 colour",
-            "",
-        ),
-        (
-            "replay",
-            ("m = 1", ""),
-            "flow x\n",
-            NONE,
-            2,
-            "config 2 m",
-            "",
-        ),
-        (
-            "replay",
-            ("trim_quorum = 2", "trim_quorum = 1"),
-            "flow x\n",
-            NONE,
-            2,
-            "config 7 0",
-            "",
-        ),
-        (
-            "replay",
-            ("to = \"\"", "to = \"80\""),
-            "flow x\n",
-            NONE,
-            2,
-            "config 8 0",
-            "",
-        ),
-        (
-            "replay",
-            ("{ id = 1, a", "{ id = 0, a"),
-            "flow x\n",
-            NONE,
-            2,
-            "config 5 node.id 0",
-            "",
-        ),
-        (
-            "replay",
-            ("m = 1", "="),
-            "flow x\n",
-            NONE,
-            2,
-            "config 1",
-            "",
-        ),
-        // Accepted, and not built.
-        (
-            "replay",
-            ("lambda = 0", "lambda = 1"),
-            "flow x\n",
-            NONE,
-            2,
-            "config 13",
-            "",
-        ),
-        (
-            "replay",
-            ("replicas = [0, 1, 2]", "replicas = [0, 1]"),
-            "flow x\n",
-            NONE,
-            2,
-            "config 13",
-            "",
-        ),
-        ("replay", two_rings, "flow x\n", NONE, 2, "config 13", ""),
-        // A schedule is printed over a deployment for which nothing is built, and no input is read.
-        ("gen 1 0", SAME, "", no_input, 0, "", ""),
-        (
-            "gen 1 3",
-            SAME,
-            "",
-            no_input,
-            0,
-            "",
-            "flow 1000\ntick all\nflow 1000\n",
-        ),
-        (
-            "gen 18446744073709551615 2",
-            ("lambda = 0", "lambda = 1"),
-            "",
-            no_input,
-            0,
-            "",
-            "flow 1000\ntick all\n",
-        ),
-        ("gen 1 3", ("m = 1", "="), "", NONE, 2, "config 1", ""),
-        ("replay", SAME, ASKED, no_config, 4, "source config", ""),
-        ("replay", SAME, ASKED, input_stops, 4, "source input", ""),
-        ("replay", SAME, ASKED, no_write, 5, "sink", ""),
-        ("gen 1 3", SAME, "", no_config, 4, "source config", ""),
-        ("gen 1 3", SAME, "", no_write, 5, "sink", ""),
-        ("", SAME, "", NONE, 1, "usage", ""),
-        ("replay x", SAME, "", NONE, 1, "usage", ""),
-        ("Replay", SAME, "", NONE, 1, "usage", ""),
-        ("audit", SAME, "", NONE, 1, "usage", ""),
-        ("gen", SAME, "", NONE, 1, "usage", ""),
-        ("gen 1", SAME, "", NONE, 1, "usage", ""),
-        ("gen 1 2 3", SAME, "", NONE, 1, "usage", ""),
-        ("gen 01 3", SAME, "", NONE, 1, "usage", ""),
-        ("gen x 3", SAME, "", NONE, 1, "usage", ""),
-        ("gen 1 1048577", SAME, "", NONE, 1, "usage", ""),
-        ("gen 18446744073709551616 3", SAME, "", NONE, 1, "usage", ""),
-        ("Gen 1 3", SAME, "", NONE, 1, "usage", ""),
-    ];
-    assert_eq!(rt; first_other(rt.alloc(), &cases)?, None);
+    for line in CASES.lines() {
+        let Some((run, wanted)) = line.split_once(" => ") else {
+            return Err(Fail::new("no status"));
+        };
+        let ended = ended_by(rt.alloc(), run)?;
+        assert!(rt; ends_so(rt.alloc(), &ended, wanted)?, "{line}: {ended:?}");
+    }
     Ok(())
 }
 
