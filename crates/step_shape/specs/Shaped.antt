@@ -1,0 +1,152 @@
+-- What is kept of every frame, view and step so that each frame has a spelling and each part its shape, beside what `step_valid` and
+-- `ask_laws` keep.
+use Rattle.std.specs.Prelude.{◌≡◌, ℕ, ◌-◌, ◌<◌, ◌≤◌, ◌^◌, min, max, false, List, length, sum_by, Option, Some, None}
+use Rattle.std.specs.List.{AllByRecursion}
+use Rattle.mrp_types.specs.declared.id.NodeId.{NodeId}
+use Rattle.mrp_types.specs.declared.id.Party.{Party}
+use Rattle.mrp_types.specs.declared.id.Party.TheVariants.{Node, Client}
+use Rattle.mrp_types.specs.declared.voted.Voted.{Voted}
+use Rattle.mrp_types.specs.declared.voted.Decided.{Decided}
+use Rattle.frames.specs.declared.body.Body.{Body}
+use Rattle.frames.specs.declared.body.Body.TheVariants as body
+use Rattle.frames.specs.declared.sent.Sent.{Sent}
+use Rattle.frames.specs.Ranges.{nothing_before}
+use Rattle.frames.specs.Spelling.{vote_size, decided_size}
+use Rattle.frames.specs.Valid.{AreVotes, AreRanges}
+use Rattle.vote_state.specs.State.{no_votes}
+use Rattle.vote_state.specs.Valid.{IsRing, IsBallot, IsInst}
+use Rattle.checkpoint.specs.Checkpoints.{Checkpoint}
+use Rattle.protocol.specs.Parts.{Ring, Campaign, Role, Idle, Active, Part, Effects}
+use Rattle.protocol.specs.Rings.{is_acceptor}
+use Rattle.protocol.specs.Acceptor.{page_room}
+use Rattle.protocol.specs.Node.{RingPart, Choice, Stage, Recovering, Ready, Service, View, Event, Takes, Stepped, StepSoFar}
+
+-- ---- frames
+
+-- votes in order, without overlap, and maximal, that fit a page
+pub record IsVotesPage (votes : List Voted) : Type 0 where
+  pub are : AreVotes nothing_before votes
+  pub room : sum_by vote_size votes ≤ page_room
+
+-- decided ranges likewise, one at least
+pub record IsRangesPage (ranges : List Decided) : Type 0 where
+  pub are : AreRanges nothing_before ranges
+  pub room : sum_by decided_size ranges ≤ page_room
+  pub some : 1 ≤ length ranges
+
+-- What a frame of a node needs to have a spelling, beside what `BodyValid` says and that its tuples are tuples. Nothing is said of the
+-- number of a round and of an epoch, which have no limit in a world without bytes.
+abbrev pub BodyFits : Body → Type 0
+BodyFits (body.Submit r hops client seq command) = IsRing r × (hops ≤ 1)
+BodyFits (body.Prepare r ballot lo) = IsRing r × IsInst lo
+BodyFits (body.Promise r ballot lo hi trim votes) = IsRing r × (lo < hi) × IsVotesPage votes
+BodyFits (body.Refuse r ballot promise) = IsRing r × IsBallot ballot × IsBallot promise
+BodyFits (body.Accept r ballot lo hi mask value) = IsRing r × (lo < hi)
+BodyFits (body.Decide r lo hi left value) = IsRing r × (lo < hi)
+BodyFits (body.Fetch r lo) = IsRing r × IsInst lo
+BodyFits (body.Chosen r ranges) = IsRing r × IsRangesPage ranges
+BodyFits (body.Trimmed r trim) = IsRing r
+BodyFits (body.AskSafe r round) = IsRing r
+BodyFits (body.Safe r round inst) = IsRing r
+BodyFits (body.TrimTo r trim) = IsRing r
+BodyFits (body.AskCheckpoint epoch attempt) = attempt < 2 ^ 32
+BodyFits (body.HaveCheckpoint epoch attempt tuple) = attempt < 2 ^ 32
+BodyFits (body.AskPart epoch attempt tuple offset) = (attempt < 2 ^ 32) × (offset < 2 ^ 64)
+BodyFits (body.Part epoch attempt tuple offset total bytes) =
+    (attempt < 2 ^ 32) × (offset < 2 ^ 64) × (total < 2 ^ 64) × (1 ≤ length bytes) × (length bytes ≡ min 16384 (total - offset))
+BodyFits (body.Gone epoch attempt asked newer) = attempt < 2 ^ 32
+BodyFits (body.Reply client seq partition reply) = (length reply ≤ 16384) × (seq < 2 ^ 64)
+BodyFits body.Hello = Unit {0}
+
+-- a frame of this node
+pub record SentFits (id : NodeId) (sent : Sent) : Type 0 where
+  pub from : sent.frame.from ≡ Node id
+  pub fits : BodyFits sent.frame.body
+
+-- what comes from a node fits; what comes from a client is a command, of which `BodyValid` says enough
+abbrev pub FrameFits : Party → Body → Type 0
+FrameFits (Node from) body = BodyFits body
+FrameFits (Client from) body = Unit {0}
+
+-- ---- what a node keeps of a ring
+
+-- some instance of a proposal isn't below the trim
+abbrev pub IsOpen : ℕ → Decided → Type 0
+IsOpen trim range = max range.lo trim < range.hi
+
+abbrev pub OpenFits : ℕ → Role → Type 0
+OpenFits trim Idle = Unit {0}
+OpenFits trim (Active campaign) = AllByRecursion (IsOpen trim) campaign.outstanding
+
+-- what is proposed next isn't below the trim
+abbrev pub NextFits : ℕ → Role → Type 0
+NextFits trim Idle = Unit {0}
+NextFits trim (Active campaign) = trim ≤ campaign.next
+
+-- a part of no acceptor has nothing kept, is Idle and has no round
+pub record IsOutside (part : Part) : Type 0 where
+  pub kept : part.kept ≡ no_votes
+  pub idle : part.coordinator.role ≡ Idle
+  pub round : part.rounds.current ≡ None
+
+pub record PartFits (ring : Ring) (part : Part) : Type 0 where
+  pub outstanding : OpenFits part.kept.trim part.coordinator.role
+  pub next : NextFits part.kept.trim part.coordinator.role
+  pub outside : is_acceptor ring ≡ false → IsOutside part
+
+-- what a rule of a ring makes on its way, before it proposes
+pub record EffectsNear (id : NodeId) (effects : Effects) : Type 0 where
+  pub outstanding : OpenFits effects.part.kept.trim effects.part.coordinator.role
+  pub frames : AllByRecursion (SentFits id) effects.frames
+
+-- what a rule of a ring makes
+pub record EffectsFit (ring : Ring) (id : NodeId) (effects : Effects) : Type 0 where
+  pub part : PartFits ring effects.part
+  pub frames : AllByRecursion (SentFits id) effects.frames
+
+-- ---- a replica
+
+-- the bytes that came of a choice have a length that fits
+abbrev pub GatheredFits : Option Choice → Type 0
+GatheredFits None = Unit {0}
+GatheredFits (Some choice) = length choice.bytes < 2 ^ 64
+
+abbrev pub StageFits : Stage → Type 0
+StageFits (Recovering attempt) = (attempt.number < 2 ^ 32) × GatheredFits attempt.choice
+StageFits (Ready standing) = Unit {0}
+
+pub record ServiceFits (service : Service) : Type 0 where
+  pub attempts : service.attempts < 2 ^ 32
+  pub stage : StageFits service.stage
+
+abbrev pub ReplicaFits : Option Service → Type 0
+ReplicaFits None = Unit {0}
+ReplicaFits (Some service) = ServiceFits service
+
+abbrev pub NewestFits : Option Checkpoint → Type 0
+NewestFits None = Unit {0}
+NewestFits (Some newest) = length newest.state < 2 ^ 64
+
+-- ---- a node
+
+abbrev pub MemberFits : RingPart → Type 0
+MemberFits p = PartFits p.ring p.part
+
+pub record ViewFits (view : View) : Type 0 where
+  pub parts : AllByRecursion MemberFits view.parts
+  pub replica : ReplicaFits view.service
+  pub newest : NewestFits view.checkpoints.newest
+
+abbrev pub EventFits : Event → Type 0
+EventFits (Takes frame) = FrameFits frame.from frame.body
+EventFits other = Unit {0}
+
+-- a step on its way
+pub record SoFarFits (id : NodeId) (a : StepSoFar) : Type 0 where
+  pub view : ViewFits a.view
+  pub frames : AllByRecursion (SentFits id) a.frames
+  pub replies : AllByRecursion (SentFits id) a.replies
+
+pub record StepFits (id : NodeId) (effects : Stepped) : Type 0 where
+  pub view : ViewFits effects.view
+  pub frames : AllByRecursion (SentFits id) effects.frames
