@@ -15,6 +15,7 @@ use Rattle.frames.specs.Spelling.{vote_size, decided_size}
 use Rattle.frames.specs.Valid.{AreVotes, AreRanges}
 use Rattle.vote_state.specs.State.{no_votes}
 use Rattle.vote_state.specs.Valid.{IsRing, IsBallot, IsInst}
+use Rattle.mrp_config.specs.Valid.{AreAtMost, numbers_of_rings}
 use Rattle.checkpoint.specs.Checkpoints.{Checkpoint}
 use Rattle.protocol.specs.Parts.{Ring, Campaign, Role, Idle, Active, Part, Effects}
 use Rattle.protocol.specs.Rings.{is_acceptor}
@@ -117,6 +118,7 @@ StageFits (Ready standing) = Unit {0}
 
 pub record ServiceFits (service : Service) : Type 0 where
   pub attempts : service.attempts < 2 ^ 32
+  pub rings : AreAtMost 15 (numbers_of_rings service.partition.rings)
   pub stage : StageFits service.stage
 
 abbrev pub ReplicaFits : Option Service → Type 0
