@@ -1,66 +1,43 @@
 -- A step on its way keeps its shape, whatever the rules are that it makes.
-use Rattle.std.proofs.Common.{◌≡◌, ℕ, zero, suc, ◌+◌, ◌/◌, ◌%◌, ◌<◌, ◌^◌, Bool, true, false, ◌&&◌, List, [], ◌∷◌, ◌++◌, Option, Some, None, refl, sym, ◌∙◌, ap, subst}
+use Rattle.std.proofs.Common.{◌≡◌, ℕ, zero, suc, ◌^◌, Bool, true, false, List, [], ◌∷◌, Option, Some, None, refl, sym, ◌∙◌, ap, subst}
 use Rattle.std.specs.Prelude.{◌==◌, if◌then◌else◌}
 use Rattle.std.specs.List.{AllByRecursion}
 use Rattle.mrp_types.specs.declared.id.NodeId.{NodeId}
 use Rattle.mrp_types.specs.declared.id.RingId.{RingId}
-use Rattle.mrp_types.specs.declared.id.ClientId.{ClientId}
-use Rattle.mrp_types.specs.declared.id.Party.{Party}
-use Rattle.mrp_types.specs.declared.id.Party.TheVariants.{Node, Client}
 use Rattle.mrp_types.specs.declared.value.Entry.{Entry}
-use Rattle.mrp_types.specs.declared.voted.Voted.{Voted}
 use Rattle.mrp_types.specs.declared.voted.Decided.{Decided}
 use Rattle.mrp_types.specs.Entries.{IsEntry}
 use Rattle.mrp_config.specs.Config.{Config}
 use Rattle.mrp_config.specs.declared.tables.RingTable.{RingTable}
-use Rattle.command_codec.specs.Grammar.{command_of}
 use Rattle.quorums.specs.Groups.{Has}
 use Rattle.quorums.proofs.Each.{mapped}
 use Rattle.vote_state.specs.Valid.{IsRing, IsChange}
 use Rattle.vote_state.proofs.StateLemmas.{append_all}
-use Rattle.ring_link.specs.Silence.{with_heard}
-use Rattle.frames.specs.declared.body.Body.{Body}
-use Rattle.frames.specs.declared.body.Body.TheVariants as body
 use Rattle.beside_rings.specs.Beside.{IsNoLearn, Untouched}
 use Rattle.beside_rings.proofs.Merge.{merges_untouched}
-use Rattle.beside_rings.proofs.Recovered.{safe_is_inst, untouched_recovers_if_trimmed, untouched_safe, untouched_service, untouched_recovering, untouched_tells, untouched_tells_part, untouched_answered, untouched_part, untouched_gone, untouched_recovery}
-use Rattle.beside_rings.proofs.Asked.{untouched_beat}
 use Rattle.plain_model.proofs.TupleOrder.{same_number}
 use Rattle.protocol.specs.Lines.{Line, Learn}
 use Rattle.protocol.specs.Parts.{Ring, Part, Effects}
-use Rattle.protocol.specs.Rings.{is_acceptor, ring_of}
+use Rattle.protocol.specs.Rings.{ring_of}
 use Rattle.protocol.specs.Effects.{no_effects}
-use Rattle.protocol.specs.Learner.{learns, decided, chosen}
-use Rattle.protocol.specs.Acceptor.{prepares, accepts, fetches}
-use Rattle.protocol.specs.Ballots.{is_active}
-use Rattle.protocol.specs.Coordinator.{leads, promised, refused, submits}
-use Rattle.protocol.specs.Leading.{starts_on_tick, resends, levels}
+use Rattle.protocol.specs.Learner.{learns}
 use Rattle.protocol.specs.Proposing.{proposes}
-use Rattle.protocol.specs.Trimming.{trimmed, asks_round, answers}
-use Rattle.protocol.specs.Node.{StepSoFar, View, RingPart, part_in, part_at, with_part_in, with_part, prints}
+use Rattle.protocol.specs.Node.{StepSoFar, RingPart, part_in, part_at, with_part_in, with_part, prints}
 use Rattle.protocol.specs.Merging.{merges}
-use Rattle.protocol.specs.Recovery.{tells_checkpoint, answered_by, tells_part, takes_part, takes_gone, safe_of}
 use Rattle.protocol.specs.Learning.{with_effects, Queued, queued, proposes_then, by_news, learns_one, then_learns, learns_up_to, applies_effects}
-use Rattle.protocol.specs.Step.{at_member, at_acceptor, is_for, recovers_if_trimmed, handles_trim_at, handles_submit, handles_body, handles_from}
-use Rattle.protocol.specs.Tick.{rules_at, rules_for, ticks_ring, ticks_rings, recovery_ticks_at, asks_on_beat, beats_with}
-use Rattle.step_valid.specs.Valid.{BodyValid, SentValid, MayLearn, PartValid, EffectsValid, IsMemberOf, MemberValid, LearnValid, LineValid, AreNumbered}
+use Rattle.step_valid.specs.Valid.{SentValid, MayLearn, PartValid, EffectsValid, IsMemberOf, MemberValid, LearnValid, LineValid, AreNumbered}
 use Rattle.step_valid.proofs.Words.{valid_none, valid_proposes}
 use Rattle.step_valid.proofs.Learned.{learns_valid, news_some}
-use Rattle.step_valid.proofs.Tables.{valid_prepares, valid_accepts, valid_fetches, valid_trimmed, valid_decided, valid_chosen, valid_promised, valid_refused, valid_leads, valid_starts}
-use Rattle.step_valid.proofs.Others.{valid_submits, valid_resends, valid_levels, valid_asks_round, valid_answers}
 use Rattle.step_valid.proofs.Going.{SoFarValid, untouched_valid, found, member_numbered}
-use Rattle.ask_laws.specs.Carried.{PartCarries, RingPartCarries, RangesCarry, ValueCarries, VotedCarry, ChangeCarries, LineCarries, SentCarries, BodyCarries, PartyCarries, EffectsCarry, ActCarries}
+use Rattle.ask_laws.specs.Carried.{PartCarries, RingPartCarries, RangesCarry, ValueCarries, ChangeCarries, LineCarries, SentCarries, EffectsCarry, ActCarries}
 use Rattle.ask_laws.proofs.Commands.{IsOfBytes}
-use Rattle.ask_laws.proofs.Acceptor.{none_made, prepares_made, accepts_made, fetches_made}
+use Rattle.ask_laws.proofs.Acceptor.{none_made}
 use Rattle.ask_laws.proofs.Proposing.{proposes_made}
-use Rattle.ask_laws.proofs.Coordinating.{learns_carry, leads_made, promised_made, refused_made, submits_made, starts_made, resends_made, levels_made, trimmed_made, asks_round_made, answers_made, decided_made, chosen_made}
-use Rattle.ask_laws.proofs.SoFar.{FoundCarries, part_found, put_act, prints_act, merges_act}
-use Rattle.ask_laws.proofs.Recovering.{answered_keeps as answered_act, part_keeps as part_act, gone_keeps as gone_act, tells_keep as tells_act, tells_part_keeps as tells_part_act, recovery_keeps as recovery_act, recovers_if_trimmed_keeps as trimmed_act, safe_keeps as safe_act, service_keeps as service_act, recovering_keeps as recovering_act, beat_keeps as beat_act}
-use Rattle.step_shape.specs.Shaped.{BodyFits, SentFits, FrameFits, PartFits, MemberFits, EffectsFit, SoFarFits}
-use Rattle.step_shape.proofs.Tables.{fits_learns, fits_proposing_member, fits_decided, fits_chosen, fits_prepares, fits_accepts, fits_fetches, fits_trimmed, fits_promised, fits_refused, fits_leads, fits_starts, fits_submits, fits_resends, fits_levels}
-use Rattle.step_shape.proofs.Rounds.{fits_asks_round, fits_answers}
+use Rattle.ask_laws.proofs.Coordinating.{learns_carry}
+use Rattle.ask_laws.proofs.SoFar.{put_act, prints_act, merges_act}
+use Rattle.step_shape.specs.Shaped.{SentFits, PartFits, MemberFits, EffectsFit, SoFarFits}
+use Rattle.step_shape.proofs.Tables.{fits_learns, fits_proposing_member}
 use Rattle.step_shape.proofs.Merging.{IsMine, Ground, merges_ground}
-use Rattle.step_shape.proofs.Recovering.{answered_keeps, part_keeps, gone_keeps, tells_keep, tells_part_keeps, recovery_keeps, recovers_if_trimmed_keeps, safe_keeps, service_keeps, recovering_keeps, beat_keeps}
 
 -- what is so of a step on its way, by the three laws together
 pub record Whole (config : Config) (id : NodeId) (Is : ℕ → Entry → Type 0) (Valid : Type 0) (a : StepSoFar) : Type 0 where
@@ -94,7 +71,7 @@ module _ (config : Config) (numbered : AreNumbered config) (unique : (t u : Ring
 
   -- ---- rings
 
-  own_ring : (r : Ring) → IsMemberOf config id r → r.own ≡ id
+  pub own_ring : (r : Ring) → IsMemberOf config id r → r.own ≡ id
   own_ring r m = ap (λ (x : Ring). x.own) m.same
 
   same_ring : (r s : Ring) → IsMemberOf config id r → IsMemberOf config id s → r.id.0 ≡ s.id.0 → r ≡ s
@@ -115,7 +92,7 @@ module _ (config : Config) (numbered : AreNumbered config) (unique : (t u : Ring
 
   -- ---- a replica's rules
 
-  ground : (a : StepSoFar) → Goes a → Ground Is id a
+  pub ground : (a : StepSoFar) → Goes a → Ground Is id a
   ground a w = record {
     own = w.valid.own;
     mine = mapped (MemberValid config id) (IsMine id) (λ p m. record { number = member_numbered config id p.ring numbered m.of_ring; own = own_ring p.ring m.of_ring }) a.view.parts w.valid.parts;
@@ -125,7 +102,7 @@ module _ (config : Config) (numbered : AreNumbered config) (unique : (t u : Ring
     fits = w.fits;
   }
 
-  leaves : (a b : StepSoFar) → Untouched a b → ActCarries Is Valid b → Ground Is id b → Goes a → Goes b
+  pub leaves : (a b : StepSoFar) → Untouched a b → ActCarries Is Valid b → Ground Is id b → Goes a → Goes b
   leaves a b u c g w = record { valid = untouched_valid config id a b u w.valid; carries = c; fits = g.fits }
 
   merges_whole : (a : StepSoFar) → Goes a → Goes (merges config a)

@@ -5,3 +5,5 @@ pub mod Rounds
 pub mod Merging
 pub mod Recovering
 pub mod Going
+pub mod Dispatch
+pub mod Ending

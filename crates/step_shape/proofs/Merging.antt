@@ -1,6 +1,6 @@
 -- A ready replica takes what was learned: each reply that it sends is short.
-use Rattle.std.proofs.Common.{◌≡◌, ℕ, zero, suc, ◌+◌, ◌-◌, ◌<◌, ◌≤◌, ◌^◌, Bool, true, false, List, [], ◌∷◌, ◌++◌, length, map, Option, Some, None, refl, sym, ◌∙◌, ap, subst, arith}
-use Rattle.std.specs.Prelude.{◌==◌, nat_eq, nat_lt, if◌then◌else◌}
+use Rattle.std.proofs.Common.{◌≡◌, ℕ, zero, suc, ◌+◌, ◌<◌, ◌^◌, Bool, true, false, List, [], ◌∷◌, map, Option, Some, None, sym, ap, subst, arith}
+use Rattle.std.specs.Prelude.{nat_eq, nat_lt, if◌then◌else◌}
 use Rattle.std.specs.List.{AllByRecursion}
 use Rattle.mrp_types.specs.declared.id.NodeId.{NodeId}
 use Rattle.mrp_types.specs.declared.id.RingId.{RingId}
@@ -16,21 +16,21 @@ use Rattle.frames.specs.declared.sent.Sent.{Sent}
 use Rattle.range_map.specs.Entries.{value_at}
 use Rattle.vote_state.specs.Valid.{IsRing}
 use Rattle.vote_state.proofs.StateLemmas.{append_all}
-use Rattle.plain_model.specs.Replicas.{Replica, AppliedAll, noted, with_applied, apply, applies_from, applies, entries_of_batch}
+use Rattle.plain_model.specs.Replicas.{AppliedAll, noted, with_applied, apply, applies_from, applies, entries_of_batch}
 use Rattle.state_laws.specs.Spoken.{IsReplyText}
-use Rattle.state_laws.specs.States.{IsGiven, AreGiven, HasFewLogs, IsSound}
+use Rattle.state_laws.specs.States.{AreGiven, HasFewLogs, IsSound}
 use Rattle.state_laws.proofs.Bytes.{sound_from}
 use Rattle.state_laws.proofs.Given.{batch_given}
 use Rattle.state_laws.proofs.Steps.{AreTexts, texts_from}
 use Rattle.protocol.specs.Lines.{Line, Deliver}
 use Rattle.protocol.specs.Learner.{value_in}
-use Rattle.protocol.specs.Node.{StepSoFar, View, RingPart, Service, Stage, Recovering, Ready, Standing, part_in, part_at, with_stage, prints, sends_all}
-use Rattle.protocol.specs.Merging.{reply_line, reply_frame, replying, value_of_part, value_at_place, place_of, skipped, passed_batch, takes_place, merges_place, merges_stage, merges_service, merges_up_to, merges}
+use Rattle.protocol.specs.Node.{StepSoFar, View, RingPart, Service, Stage, Recovering, Ready, Standing, part_at, with_stage, prints, sends_all}
+use Rattle.protocol.specs.Merging.{reply_frame, replying, value_of_part, value_at_place, place_of, skipped, passed_batch, takes_place, merges_place, merges_stage, merges_service, merges_up_to, merges}
 use Rattle.ask_laws.specs.Carried.{StageKeeps, ReplicaKeeps, NewestKeeps, HeldCarry, ValueCarries, RingPartCarries}
 use Rattle.ask_laws.proofs.Commands.{IsOfBytes, batch_are}
 use Rattle.ask_laws.proofs.SoFar.{FoundCarries, part_found}
 use Rattle.quorums.proofs.Each.{mapped}
-use Rattle.step_shape.specs.Shaped.{SentFits, StageFits, ServiceFits, ReplicaFits, SoFarFits}
+use Rattle.step_shape.specs.Shaped.{SentFits, ServiceFits, ReplicaFits, SoFarFits}
 
 -- ---- replies
 

@@ -1,24 +1,22 @@
 -- Pages of votes and of decided ranges are in order, without overlap, and maximal.
-use Rattle.std.proofs.Common.{◌≡◌, inl, inr, ℕ, zero, suc, ◌+◌, ◌-◌, ◌<◌, ◌≤◌, max, Bool, true, false, true≢false, ◌&&◌, List, [], ◌∷◌, ◌++◌, length, drop, Some, None, refl, sym, ◌∙◌, subst, arith}
+use Rattle.std.proofs.Common.{◌≡◌, inl, inr, ℕ, zero, suc, ◌-◌, ◌<◌, ◌≤◌, max, Bool, true, false, true≢false, ◌&&◌, List, [], ◌∷◌, ◌++◌, length, drop, Some, None, refl, sym, ◌∙◌, subst, arith}
 use Rattle.std.specs.Prelude.{◌==◌, nat_eq, nat_le, not, if◌then◌else◌, sum_by}
 use Rattle.std.specs.List.{AllByRecursion}
 use Rattle.std.proofs.lemmas.Bool.{and_parts, cases_lt}
 use Rattle.std.proofs.lemmas.Bool.Decides.{nat_tests}
-use Rattle.std.proofs.lemmas.List.Sums.{sum_by-cons}
 use Rattle.mrp_types.specs.declared.id.TheConstants.{END}
 use Rattle.mrp_types.specs.declared.value.Value.{Value}
 use Rattle.mrp_types.specs.declared.value.Value.TheVariants.{Skip, Batch}
 use Rattle.mrp_types.specs.declared.voted.Voted.{Voted}
 use Rattle.mrp_types.specs.declared.voted.Decided.{Decided}
 use Rattle.mrp_types.specs.Values.{is_skip}
-use Rattle.command_codec.specs.Parts.{IsSpelled}
 use Rattle.command_codec.proofs.PartLaws.{value_short}
-use Rattle.range_map.specs.Entries.{value_at, entries_from, IsIncreasingFrom}
+use Rattle.range_map.specs.Entries.{entries_from, IsIncreasingFrom}
 use Rattle.range_map.proofs.EntryLemmas.{increasing_entries_from}
 use Rattle.vote_state.specs.declared.ring.RingState.{RingState}
 use Rattle.vote_state.specs.State.{IsKept}
 use Rattle.vote_state.specs.Valid.{IsVoted, IsHeld}
-use Rattle.vote_state.specs.Ranges.{cast_of, is_one, ranges_of, cast_at, AreInOrderFrom, IsApartFrom, AreApart, AreMaximalRanges}
+use Rattle.vote_state.specs.Ranges.{cast_of, ranges_of, cast_at, AreInOrderFrom, IsApartFrom, AreApart, AreMaximalRanges}
 use Rattle.vote_state.proofs.RangeLemmas.{cast_eq, one_to}
 use Rattle.vote_state.proofs.MaximalLemmas.{cast_within, maximal_from}
 use Rattle.vote_state.proofs.StateLemmas.{filter_all}
@@ -33,10 +31,10 @@ use Rattle.plain_model.proofs.TupleOrder.{same_number}
 use Rattle.ring_kept.proofs.Keeping.{cut_below}
 use Rattle.protocol.specs.Acceptor.{page_room, votes_page, ranges_page, page_end}
 use Rattle.protocol.specs.Learner.{learned_ranges}
-use Rattle.protocol.specs.Meaning.{AreInTurnFrom, IsUnjoined, AreUnjoined, AreMaximal}
+use Rattle.protocol.specs.Meaning.{AreInTurnFrom, IsUnjoined, AreUnjoined}
 use Rattle.protocol.proofs.RangeLemmas.{learned_maximal}
 use Rattle.step_valid.specs.Valid.{MayLearn, IsLearned}
-use Rattle.step_valid.proofs.Listed.{page_may, back_all}
+use Rattle.step_valid.proofs.Listed.{page_may}
 use Rattle.step_shape.specs.Shaped.{IsVotesPage, IsRangesPage}
 
 -- ---- neighbours

@@ -1,5 +1,5 @@
 -- Recovery, asking for what is missing, and greeting: each frame fits, and so do the numbers and the bytes that a replica keeps.
-use Rattle.std.proofs.Common.{◌≡◌, ◌<◌, ◌≤◌, refl, sym, ◌∙◌, ap, subst, arith, take, drop, ℕ, ◌+◌, ◌-◌, ◌^◌, min, Bool, true, false, true≢false, ◌&&◌, ◌||◌, List, [], ◌∷◌, ◌++◌, length, length-append, map, Option, Some, None}
+use Rattle.std.proofs.Common.{◌≡◌, ◌<◌, ◌≤◌, refl, ap, subst, arith, take, drop, ℕ, ◌+◌, ◌-◌, ◌^◌, min, Bool, true, false, true≢false, ◌&&◌, ◌||◌, List, [], ◌∷◌, ◌++◌, length, length-append, map, Option, Some, None}
 use Rattle.std.specs.Prelude.{◌==◌, nat_lt, nat_le, not, if◌then◌else◌, filter}
 use Rattle.std.specs.List.{AllByRecursion, flat_map}
 use Rattle.std.proofs.lemmas.Bool.{and_parts}
@@ -13,7 +13,6 @@ use Rattle.mrp_types.specs.declared.value.Entry.{Entry}
 use Rattle.mrp_config.specs.Config.{Config, has_node, has_ring}
 use Rattle.mrp_config.specs.Valid.{AreAtMost, numbers_of_rings}
 use Rattle.mrp_config.specs.declared.tables.NodeTable.{NodeTable}
-use Rattle.frames.specs.declared.body.Body.{Body}
 use Rattle.frames.specs.declared.body.Body.TheVariants as body
 use Rattle.frames.specs.declared.sent.Sent.{Sent}
 use Rattle.hex.specs.Hex.{IsBytes}
@@ -29,7 +28,7 @@ use Rattle.plain_model.specs.Replicas.{Replica, empty_replica}
 use Rattle.plain_model.specs.StateBytes.{state_of}
 use Rattle.plain_model.specs.Tuples.{round_sizes, first_tuple, is_tuple_of, instances}
 use Rattle.protocol.specs.Lines.{Line, Begin, Chose, Restore, Refuse, AttemptLimit}
-use Rattle.protocol.specs.Rings.{is_beyond, sends, sends_to}
+use Rattle.protocol.specs.Rings.{sends, sends_to}
 use Rattle.protocol.specs.Trimming.{has_answered}
 use Rattle.protocol.specs.Node.{StepSoFar, View, RingPart, Service, Stage, Recovering, Ready, Attempt, Choice, part_in as member_in, part_at, with_stage, prints, sends_all}
 use Rattle.protocol.specs.Merging.{place_of}
@@ -38,7 +37,7 @@ use Rattle.protocol.specs.Step.{waits_below, begins_if_waits_below, after_trim, 
 use Rattle.protocol.specs.Tick.{turn_of, fetches_at, fetches_stage, fetches_missing, shares_ring, greets, recovery_ticks_at, asks_on_beat}
 use Rattle.ask_laws.specs.Carried.{GatheredKeeps, StageKeeps, ReplicaKeeps, NewestKeeps, RingPartCarries}
 use Rattle.ask_laws.proofs.Commands.{IsOfBytes}
-use Rattle.step_shape.specs.Shaped.{BodyFits, SentFits, MemberFits, GatheredFits, StageFits, ServiceFits, ReplicaFits, NewestFits, SoFarFits}
+use Rattle.step_shape.specs.Shaped.{SentFits, MemberFits, GatheredFits, StageFits, ServiceFits, ReplicaFits, NewestFits}
 use Rattle.step_shape.proofs.Words.{AllFit, to_fits}
 use Rattle.step_shape.proofs.Merging.{IsMine, Ground, prints_ground, sends_ground, stage_ground, merges_ground}
 

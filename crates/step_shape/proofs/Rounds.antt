@@ -1,5 +1,5 @@
 -- Rounds of trimming: each frame fits, and the part keeps its shape.
-use Rattle.std.proofs.Common.{◌≡◌, ℕ, suc, ◌<◌, min, Bool, true, false, ◌&&◌, List, [], ◌∷◌, ◌++◌, Option, Some, None, refl, subst, arith}
+use Rattle.std.proofs.Common.{◌≡◌, ℕ, suc, min, Bool, true, false, ◌&&◌, List, [], ◌∷◌, ◌++◌, Option, Some, None, refl, subst, arith}
 use Rattle.std.specs.Prelude.{◌==◌, nat_lt, not, if◌then◌else◌}
 use Rattle.std.specs.List.{AllByRecursion}
 use Rattle.mrp_types.specs.declared.id.NodeId.{NodeId}
@@ -14,13 +14,12 @@ use Rattle.protocol.specs.Rings.{is_acceptor, is_subscribed, by_id, replicas_of,
 use Rattle.protocol.specs.Effects.{no_effects, with_part, with_frames, with_line}
 use Rattle.protocol.specs.Acceptor.{trims_to}
 use Rattle.protocol.specs.Ballots.{role_leads}
-use Rattle.protocol.specs.Proposing.{proposes_after}
 use Rattle.protocol.specs.Trimming.{is_answered, least_of, least_above_last, least_where, least, with_answer, has_answered, in_round, trims_all, trims_above, ends_by, goes_on_round, with_own_answer, next_round, with_asked, asks, asks_round, answers_in, answers}
 use Rattle.step_valid.specs.Valid.{RoundValid, PartValid, EffectsValid}
 use Rattle.step_valid.proofs.Words.{valid_none, valid_each, valid_frames, valid_trims}
 use Rattle.step_valid.proofs.Tables.{valid_line}
 use Rattle.step_shape.specs.Shaped.{PartFits, EffectsNear, EffectsFit}
-use Rattle.step_shape.proofs.Words.{AllFit, EffectsNext, each_fit, near_frames, near_trims}
+use Rattle.step_shape.proofs.Words.{EffectsNext, each_fit, near_frames, near_trims}
 use Rattle.step_shape.proofs.Tables.{fits_none, ends_fit, proposes_fit}
 
 module _ (ring : Ring) (numbered : IsRing ring.id) (id : NodeId) (mine : ring.own ≡ id) (acceptor : is_acceptor ring ≡ true) where

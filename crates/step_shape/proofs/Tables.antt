@@ -1,5 +1,5 @@
 -- The rules of acceptors, coordinators and learners, and a start: each frame fits, and the part keeps its shape.
-use Rattle.std.proofs.Common.{◌≡◌, ℕ, zero, suc, ◌+◌, ◌<◌, ◌≤◌, ◌^◌, min, max, Bool, true, false, true≢false, ◌&&◌, ◌||◌, List, [], ◌∷◌, ◌++◌, length, Option, Some, None, refl, sym, ◌∙◌, ap, subst, arith}
+use Rattle.std.proofs.Common.{◌≡◌, ℕ, zero, suc, ◌<◌, ◌≤◌, ◌^◌, max, Bool, true, false, true≢false, ◌&&◌, List, [], ◌∷◌, length, Option, Some, None, refl, sym, ◌∙◌, subst, arith}
 use Rattle.std.specs.Prelude.{◌==◌, nat_lt, nat_le, not, if◌then◌else◌, slice_index}
 use Rattle.std.specs.List.{AllByRecursion}
 use Rattle.std.proofs.lemmas.Bool.{and_parts}
@@ -13,7 +13,6 @@ use Rattle.mrp_types.specs.declared.voted.Voted.{Voted}
 use Rattle.mrp_types.specs.declared.voted.Decided.{Decided}
 use Rattle.mrp_types.specs.Entries.{IsEntry}
 use Rattle.plain_model.specs.Fold.{entries_of_value}
-use Rattle.plain_model.proofs.TupleOrder.{same_number}
 use Rattle.range_map.specs.Entries.{entries_from}
 use Rattle.vote_state.specs.State.{IsKept, with_promise}
 use Rattle.vote_state.specs.Valid.{IsRing, IsBallot, IsInst, IsVoted}
@@ -24,18 +23,18 @@ use Rattle.frames.specs.declared.body.Body.TheVariants as body
 use Rattle.frames.specs.declared.sent.Sent.{Sent}
 use Rattle.protocol.specs.Lines.{BallotLimit, InstanceLimit}
 use Rattle.protocol.specs.Parts.{Ring, Pending, Campaign, Role, Idle, Active, Part, Effects}
-use Rattle.protocol.specs.Rings.{is_acceptor, is_node, is_own, owner_of, position_of, has_bit, with_bit, next_acceptor, next_member, other_acceptors, sends, sends_each}
+use Rattle.protocol.specs.Rings.{is_acceptor, is_node, owner_of, position_of, has_bit, with_bit, next_acceptor, next_member, other_acceptors, sends, sends_each}
 use Rattle.protocol.specs.Effects.{no_effects, with_learned, with_part, with_frames, with_campaign, with_line}
 use Rattle.protocol.specs.Learner.{is_news, role_unfinished, role_without, learned_ranges, learns_news, learns, passed_on, decided, chosen}
 use Rattle.protocol.specs.Acceptor.{promises, promises_anew, votes_anew, trims_to, promise_of, tells_promise, refuses, tells_trim, prepares, decides_or_forwards, accepts_at, accepts, tells_ranges, ranges_page, fetches}
 use Rattle.protocol.specs.Ballots.{leads_now, greatest_seen, own_ballot, new_campaign, campaigns, Page, with_page, counts, asks_more, reported_at, reported}
 use Rattle.protocol.specs.Coordinator.{starts_at, leads, promised, role_refused, refused, passes_on, is_pending, with_pending, most_pending, submits_leading, submits_in, submits}
 use Rattle.protocol.specs.Leading.{is_to_start, starts_idle, starts_on_tick, prepares_again, accepts_again, resends_in, resends, with_tick_taken, shortfall_from, levels_by, levels_in, levels}
-use Rattle.protocol.specs.Proposing.{has_room, own_mask, vote_of, turn_in, proposing, offers, proposes_after, proposes}
+use Rattle.protocol.specs.Proposing.{has_room, own_mask, turn_in, proposing, offers, proposes_after, proposes}
 use Rattle.protocol.specs.Trimming.{trimmed}
 use Rattle.protocol.proofs.OfferLemmas.{some_missing}
-use Rattle.step_valid.specs.Valid.{MayVote, CampaignValid, RoleValid, PartValid, EffectsValid}
-use Rattle.step_valid.proofs.Words.{valid_none, valid_promises, valid_trims, valid_offers, valid_proposes}
+use Rattle.step_valid.specs.Valid.{CampaignValid, RoleValid, PartValid, EffectsValid}
+use Rattle.step_valid.proofs.Words.{valid_none, valid_promises, valid_trims, valid_offers}
 use Rattle.step_valid.proofs.Tables.{valid_reported, valid_campaigns}
 use Rattle.step_shape.specs.Shaped.{IsOpen, OpenFits, NextFits, IsOutside, PartFits, EffectsNear, EffectsFit}
 use Rattle.step_shape.proofs.Pages.{told_page, told_past, learned_page}

@@ -1,6 +1,6 @@
 -- The words of a rule, and proposing: each frame that they send fits, and no proposal is outstanding that lies below the trim.
-use Rattle.std.proofs.Common.{◌≡◌, inl, inr, ℕ, zero, suc, ◌-◌, ◌<◌, ◌≤◌, max, Bool, true, false, ◌||◌, List, [], ◌∷◌, ◌++◌, length, Option, Some, None, refl, sym, ◌∙◌, ap, subst, arith}
-use Rattle.std.specs.Prelude.{◌==◌, nat_lt, nat_le, not, if◌then◌else◌, filter, count_ones}
+use Rattle.std.proofs.Common.{◌≡◌, inl, inr, ℕ, zero, suc, ◌-◌, ◌<◌, ◌≤◌, max, Bool, true, false, ◌||◌, List, [], ◌∷◌, ◌++◌, length, Option, Some, None, refl, sym, ap, subst, arith}
+use Rattle.std.specs.Prelude.{◌==◌, nat_lt, nat_le, not, if◌then◌else◌, count_ones}
 use Rattle.std.specs.List.{AllByRecursion}
 use Rattle.std.proofs.lemmas.Bool.{cases_lt}
 use Rattle.mrp_types.specs.declared.id.NodeId.{NodeId}
@@ -12,8 +12,7 @@ use Rattle.mrp_types.specs.declared.voted.Decided.{Decided}
 use Rattle.vote_state.specs.declared.change.Change.TheVariants as change
 use Rattle.vote_state.specs.Ranges.{are_held}
 use Rattle.vote_state.specs.State.{with_trim}
-use Rattle.vote_state.specs.Valid.{IsRing, IsVoted}
-use Rattle.vote_state.proofs.HeldLemmas.{not_held_not_empty}
+use Rattle.vote_state.specs.Valid.{IsRing}
 use Rattle.vote_state.proofs.StateLemmas.{append_all}
 use Rattle.ring_link.specs.Silence.{Link}
 use Rattle.frames.specs.declared.body.Body.{Body}
@@ -21,10 +20,10 @@ use Rattle.frames.specs.declared.body.Body.TheVariants as body
 use Rattle.frames.specs.declared.sent.Sent.{Sent}
 use Rattle.protocol.specs.Parts.{Ring, Campaign, Role, Idle, Active, Part, Effects}
 use Rattle.protocol.specs.Rings.{majority_of, next_acceptor, next_member, is_beyond, sends, sends_to, sends_each}
-use Rattle.protocol.specs.Effects.{no_effects, with_learned, with_part, with_change, with_frames, with_kept, with_campaign}
-use Rattle.protocol.specs.Learner.{decided_of, entries_within, are_all_held, is_held, is_finished, unfinished, role_unfinished, without_finished}
+use Rattle.protocol.specs.Effects.{no_effects, with_part, with_change, with_frames, with_kept, with_campaign}
+use Rattle.protocol.specs.Learner.{decided_of, entries_within, are_all_held, is_finished, unfinished, role_unfinished, without_finished}
 use Rattle.protocol.specs.Acceptor.{idle_below, promises, votes_for, promises_anew, votes_anew, trims_to, first_decide, decides, decides_or_forwards}
-use Rattle.protocol.specs.Proposing.{Choice, Rests, Offers, choice, advanced, own_mask, with_outstanding, after_offer, vote_of, offers, Turn, Stops, Proposes, turn_by, turn_in, turn_of, proposing, proposes_after}
+use Rattle.protocol.specs.Proposing.{Choice, Rests, Offers, choice, advanced, own_mask, after_offer, vote_of, offers, Turn, Stops, Proposes, turn_by, turn_in, turn_of, proposing, proposes_after}
 use Rattle.protocol.proofs.EntryLemmas.{gap}
 use Rattle.protocol.proofs.OfferLemmas.{choice_offer}
 use Rattle.step_valid.specs.Valid.{CampaignValid, RoleValid, EffectsValid}

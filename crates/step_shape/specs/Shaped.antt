@@ -13,12 +13,15 @@ use Rattle.frames.specs.declared.sent.Sent.{Sent}
 use Rattle.frames.specs.Ranges.{nothing_before}
 use Rattle.frames.specs.Spelling.{vote_size, decided_size}
 use Rattle.frames.specs.Valid.{AreVotes, AreRanges}
-use Rattle.vote_state.specs.State.{no_votes}
+use Rattle.vote_state.specs.State.{State, no_votes, ring_at}
 use Rattle.vote_state.specs.Valid.{IsRing, IsBallot, IsInst}
+use Rattle.mrp_config.specs.Config.{Config}
 use Rattle.mrp_config.specs.Valid.{AreAtMost, numbers_of_rings}
+use Rattle.mrp_config.specs.declared.tables.RingTable.{RingTable}
+use Rattle.quorums.specs.Groups.{Has}
 use Rattle.checkpoint.specs.Checkpoints.{Checkpoint}
-use Rattle.protocol.specs.Parts.{Ring, Campaign, Role, Idle, Active, Part, Effects}
-use Rattle.protocol.specs.Rings.{is_acceptor}
+use Rattle.protocol.specs.Parts.{Ring, Role, Idle, Active, Part, Effects}
+use Rattle.protocol.specs.Rings.{ring_of, is_acceptor}
 use Rattle.protocol.specs.Acceptor.{page_room}
 use Rattle.protocol.specs.Node.{RingPart, Choice, Stage, Recovering, Ready, Service, View, Event, Takes, Stepped, StepSoFar}
 
@@ -152,3 +155,7 @@ pub record SoFarFits (id : NodeId) (a : StepSoFar) : Type 0 where
 pub record StepFits (id : NodeId) (effects : Stepped) : Type 0 where
   pub view : ViewFits effects.view
   pub frames : AllByRecursion (SentFits id) effects.frames
+
+-- what a disk keeps of a ring of which its node is no acceptor: nothing
+abbrev pub KeepsNothing : Config → NodeId → State → Type 0
+KeepsNothing config id state = (table : RingTable) → Has config.rings table → is_acceptor (ring_of config id table) ≡ false → ring_at state table.id ≡ no_votes
