@@ -118,16 +118,16 @@ module _ (config : Config) (numbered : AreNumbered config) (Is : ℕ → Entry �
   opened_parts : (state : State) → StateCarries Is state → KeepsNothing config id state → (tables : List RingTable) → ((t : RingTable) → Has tables t → Has config.rings t)
       → AllByRecursion (λ (p : RingPart). IsMine id p × RingPartCarries Is p × MemberFits p) (parts_of config id state tables)
   opened_parts state c keeps [] listed = tt
-  opened_parts state c keeps (t ∷ tables) listed = go (is_member (ring_of config id t)) (opened_parts state c keeps tables (λ x there. listed x (inr there)))
+  opened_parts state c keeps (t ∷ tables) listed = go (is_member (ring_of config id t)) refl (opened_parts state c keeps tables (λ x there. listed x (inr there)))
     where
-      go : (b : Bool) → AllByRecursion (λ (p : RingPart). IsMine id p × RingPartCarries Is p × MemberFits p) (parts_of config id state tables)
+      go : (b : Bool) → is_member (ring_of config id t) ≡ b → AllByRecursion (λ (p : RingPart). IsMine id p × RingPartCarries Is p × MemberFits p) (parts_of config id state tables)
           → AllByRecursion (λ (p : RingPart). IsMine id p × RingPartCarries Is p × MemberFits p) (if b then part_of_ring state (ring_of config id t) ∷ parts_of config id state tables else parts_of config id state tables)
-      go false rest = rest
-      go true rest = (
+      go false member rest = rest
+      go true member rest = (
         (
           record { number = numbered t (listed t (inl refl)); own = refl },
           record { votes = c t.id.0; role = tt; held = tt },
-          record { outstanding = tt; next = tt; outside = λ e. record { kept = keeps t (listed t (inl refl)) e; idle = refl; round = refl } },
+          record { outstanding = tt; next = tt; outside = λ e. record { kept = keeps t (listed t (inl refl)) member e; idle = refl; round = refl } },
         ),
         rest,
       )

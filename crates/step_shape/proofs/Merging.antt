@@ -130,7 +130,7 @@ module _ (Is : ℕ → Entry → Type 0) (given : (r : ℕ) (e : Entry) → Is r
 
   replies_fit : (node : NodeId) (service : Service) (replied : List (ℕ × Entry × List ℕ)) → node ≡ id → AllByRecursion IsShortReply replied → AllByRecursion (SentFits id) (map (reply_frame node service) replied)
   replies_fit node service [] own are = tt
-  replies_fit node service (r ∷ rs) own are = (record { from = ap (λ (n : NodeId). Node n) own; fits = (are.0.text.short, are.0.numbered) }, replies_fit node service rs own are.1)
+  replies_fit node service (r ∷ rs) own are = (record { from = ap (λ (n : NodeId). Node n) own; to = tt; fits = (are.0.text.short, are.0.numbered) }, replies_fit node service rs own are.1)
 
   takes_ground : (config : Config) (service : Service) (standing : Standing) (place : RingId × ℕ) (value : Value) (a : StepSoFar) → HasFewLogs service.partition → IsSound service.partition standing.replica → ServiceFits service
       → ValueCarries Is place.0.0 value → Grounded a → Grounded (takes_place config service standing place value a)

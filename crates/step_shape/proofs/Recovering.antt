@@ -393,7 +393,7 @@ module _ (Is : ℕ → Entry → Type 0) (given : (r : ℕ) (e : Entry) → Is r
       go false e =
           let late = under (to.0 == own.0) (nat_le END lo) e in
           let lt : lo < END = grind (arith, nat_tests) in
-          (record { from = ap (λ (n : NodeId). Node n) mine; fits = (low, lt) }, tt)
+          (record { from = ap (λ (n : NodeId). Node n) mine; to = tt; fits = (low, lt) }, tt)
 
   found_mine : (parts : List RingPart) (ring : RingId) (p : RingPart) → AllByRecursion (IsMine id) parts → member_in parts ring ≡ Some p → IsMine id p × (p.ring.id.0 ≡ ring.0)
   found_mine [] ring p all e = absurd (cc)

@@ -42,7 +42,7 @@ to_fits id own to b mine is = go (to.0 == own.0 || is_beyond b)
   where
     go : (t : Bool) → AllFit id (if t then [] else (record { to = Node to; frame = record { from = Node own; body = b } }) ∷ [])
     go true = tt
-    go false = (record { from = ap (λ (n : NodeId). Node n) mine; fits = is }, tt)
+    go false = (record { from = ap (λ (n : NodeId). Node n) mine; to = tt; fits = is }, tt)
 
 -- ---- proposals that are open
 

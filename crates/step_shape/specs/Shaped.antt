@@ -1,6 +1,6 @@
 -- What is kept of every frame, view and step so that each frame has a spelling and each part its shape, beside what `step_valid` and
 -- `ask_laws` keep.
-use Rattle.std.specs.Prelude.{◌≡◌, ℕ, ◌-◌, ◌<◌, ◌≤◌, ◌^◌, min, max, false, List, length, sum_by, Option, Some, None}
+use Rattle.std.specs.Prelude.{◌≡◌, ℕ, ◌-◌, ◌<◌, ◌≤◌, ◌^◌, min, max, true, false, List, length, sum_by, Option, Some, None}
 use Rattle.std.specs.List.{AllByRecursion}
 use Rattle.mrp_types.specs.declared.id.NodeId.{NodeId}
 use Rattle.mrp_types.specs.declared.id.Party.{Party}
@@ -21,7 +21,7 @@ use Rattle.mrp_config.specs.declared.tables.RingTable.{RingTable}
 use Rattle.quorums.specs.Groups.{Has}
 use Rattle.checkpoint.specs.Checkpoints.{Checkpoint}
 use Rattle.protocol.specs.Parts.{Ring, Role, Idle, Active, Part, Effects}
-use Rattle.protocol.specs.Rings.{ring_of, is_acceptor}
+use Rattle.protocol.specs.Rings.{ring_of, is_member, is_acceptor}
 use Rattle.protocol.specs.Acceptor.{page_room}
 use Rattle.protocol.specs.Node.{RingPart, Choice, Stage, Recovering, Ready, Service, View, Event, Takes, Stepped, StepSoFar}
 
@@ -62,9 +62,16 @@ BodyFits (body.Gone epoch attempt asked newer) = attempt < 2 ^ 32
 BodyFits (body.Reply client seq partition reply) = (length reply ≤ 16384) × (seq < 2 ^ 64)
 BodyFits body.Hello = Unit {0}
 
+-- replies alone go to clients
+abbrev pub MayGo : Party → Body → Type 0
+MayGo (Node to) body = Unit {0}
+MayGo (Client to) (body.Reply client seq partition reply) = Unit {0}
+MayGo (Client to) other = ⊥
+
 -- a frame of this node
 pub record SentFits (id : NodeId) (sent : Sent) : Type 0 where
   pub from : sent.frame.from ≡ Node id
+  pub to : MayGo sent.to sent.frame.body
   pub fits : BodyFits sent.frame.body
 
 -- what comes from a node fits; what comes from a client is a command, of which `BodyValid` says enough
@@ -156,6 +163,6 @@ pub record StepFits (id : NodeId) (effects : Stepped) : Type 0 where
   pub view : ViewFits effects.view
   pub frames : AllByRecursion (SentFits id) effects.frames
 
--- what a disk keeps of a ring of which its node is no acceptor: nothing
+-- what a disk keeps of a ring of which its node is a member and no acceptor: nothing
 abbrev pub KeepsNothing : Config → NodeId → State → Type 0
-KeepsNothing config id state = (table : RingTable) → Has config.rings table → is_acceptor (ring_of config id table) ≡ false → ring_at state table.id ≡ no_votes
+KeepsNothing config id state = (table : RingTable) → Has config.rings table → is_member (ring_of config id table) ≡ true → is_acceptor (ring_of config id table) ≡ false → ring_at state table.id ≡ no_votes

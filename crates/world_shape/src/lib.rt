@@ -1,0 +1,2 @@
+//! Shape and widths of every run.
+#![tactic(auto)]
