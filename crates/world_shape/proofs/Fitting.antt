@@ -79,7 +79,7 @@ pub record PossibleFits (config : Config) (id : NodeId) (p : Possible) : Type 0 
 pub record UpFits (config : Config) (id : NodeId) (view : View) : Type 0 where
   pub there : IsNode config id
   pub rings : rings_in view.parts ≡ rings_of config id
-  pub view : ViewFits view
+  pub whole : ViewFits view
 
 abbrev pub blank : Possible
 blank = record { state = nothing_kept; newest = None }
@@ -330,11 +330,11 @@ module _ (config : Config) (valid : IsValid config) (before : List Happening) (r
   made : (id : NodeId) (view : View) (event : Event) → WorldFits config b → b.hosts id.0 ≡ Up view → UpFits config id view → MayCome b id event → StepFits view.id (step config view event)
   made id view event w here u may =
       step_fits config (are_numbered config valid) (tables_differ config valid) (IsAsked config (asked_in config before)) (IsValid config) valid (λ r e is. is.entry) (λ deployed r e is. entry_of_bytes config (asked_in config before) deployed r e is)
-      view (view_valid id view here) (view_carries id view here) u.view event (event_valid config (are_numbered config valid) b id event may (runs_valid config valid before ran))
+      view (view_valid id view here) (view_carries id view here) u.whole event (event_valid config (are_numbered config valid) b id event may (runs_valid config valid before ran))
       (came_carries (IsAsked config (asked_in config before)) (IsValid config) b id event may (all_keep config before ran).carried) (event_fits id event w may)
 
   stepped_fits : (id : NodeId) (view : View) (event : Event) → WorldFits config b → b.hosts id.0 ≡ Up view → UpFits config id view → MayCome b id event → UpFits config id (step config view event).view
-  stepped_fits id view event w here u may = record { there = u.there; rings = rings_stay id view event here may ∙ u.rings; view = (made id view event w here u may).view }
+  stepped_fits id view event w here u may = record { there = u.there; rings = rings_stay id view event here may ∙ u.rings; whole = (made id view event w here u may).view }
 
   sent_fit : (id : NodeId) (view : View) (frames : List Sent) → b.hosts id.0 ≡ Up view → IsNode config id → AllByRecursion (SentFits view.id) frames → AllByRecursion (FromFits config) frames
   sent_fit id view frames here there all = mapped (SentFits view.id) (FromFits config) (λ sent is. own_fits config id there sent (subst (λ (n : NodeId). SentFits n sent) (up_lines id view here).id is)) frames all
@@ -364,7 +364,7 @@ module _ (config : Config) (valid : IsValid config) (before : List Happening) (r
 
   -- the disk of a node that is up
   stands : (id : NodeId) (view : View) → now.hosts id.0 ≡ Up view → UpFits config id view → PossibleFits config id (possible_of view)
-  stands id view here u = record { newest = u.view.newest; none = keeps_nothing config valid before ran id view here u.rings u.view }
+  stands id view here u = record { newest = u.whole.newest; none = keeps_nothing config valid before ran id view here u.rings u.whole }
 
   -- and the one that a step would leave
   would_stand : (id : NodeId) (view : View) (event : Event) → now.hosts id.0 ≡ Up view → UpFits config id view → MayCome now id event → PossibleFits config id (possible_of (step config view event).view)
@@ -372,7 +372,7 @@ module _ (config : Config) (valid : IsValid config) (before : List Happening) (r
       let more : List Happening = before ++ Steps id event ∷ [] in
       let went : MayRun config nothing more = may_both config nothing before (Steps id event ∷ []) ran (may, tt) in
       let next = stepped_fits config valid before ran id view event fit here u may in
-      record { newest = next.view.newest; none = keeps_nothing config valid more went id (step config view event).view (at more) next.rings next.view }
+      record { newest = next.whole.newest; none = keeps_nothing config valid more went id (step config view event).view (at more) next.rings next.whole }
     where
       itself : (n : ℕ) (x y : Host) → (if n == n then x else y) ≡ x
       itself n x y = go (n == n) refl
@@ -419,7 +419,7 @@ module _ (config : Config) (valid : IsValid config) (before : List Happening) (r
       (subst (λ (o : Option Checkpoint). NewestKeeps o) (sym may.newest) (carries.newest valid)) (subst (λ (o : Option Checkpoint). NewestFits o) (sym may.newest) stood.newest)
       (same_kept id journal.state (chosen after durable pending).state may.rings stood.none) in
       record {
-        hosts = put_host config id (Up (opened config id journal checkpoints).view) now (record { there = may.node; rings = opened_rings config id journal checkpoints; view = effects.view }) fit.hosts;
+        hosts = put_host config id (Up (opened config id journal checkpoints).view) now (record { there = may.node; rings = opened_rings config id journal checkpoints; whole = effects.view }) fit.hosts;
         frames = appended (FromFits config) now.frames (opened config id journal checkpoints).frames fit.frames (mapped (SentFits id) (FromFits config) (own_fits config id may.node) (opened config id journal checkpoints).frames effects.frames);
       }
     where
