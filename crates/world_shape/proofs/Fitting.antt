@@ -160,7 +160,7 @@ part_there (x ∷ parts) r has = go (x.ring.id.0 == r.id.0) refl has (λ h. part
     go false e (inl same) later = absurd (let at : r.id.0 ≡ x.ring.id.0 = ap (λ (y : Ring). y.id.0) same in let yes : (x.ring.id.0 == r.id.0) ≡ true = grind (arith, nat_tests) in true≢false (sym yes ∙ e))
     go false e (inr h) later = later h
 
-found_part : (P : RingPart → Type 0) (parts : List RingPart) (ring : RingId) (p : RingPart) → AllByRecursion P parts → part_in parts ring ≡ Some p → P p
+pub found_part : (P : RingPart → Type 0) (parts : List RingPart) (ring : RingId) (p : RingPart) → AllByRecursion P parts → part_in parts ring ≡ Some p → P p
 found_part P [] ring p all e = absurd (cc)
 found_part P (x ∷ parts) ring p all e = go (x.ring.id.0 == ring.0) e (λ h. found_part P parts ring p all.1 h)
   where
@@ -268,16 +268,16 @@ module _ (config : Config) (valid : IsValid config) (before : List Happening) (r
   abbrev b : World
   b = run config before nothing
 
-  view_valid : (id : NodeId) (view : View) → b.hosts id.0 ≡ Up view → ViewValid config view
+  pub view_valid : (id : NodeId) (view : View) → b.hosts id.0 ≡ Up view → ViewValid config view
   view_valid id view here = subst (λ (h : Host). HostValid config h) here ((runs_valid config valid before ran).hosts id.0)
 
   view_carries : (id : NodeId) (view : View) → b.hosts id.0 ≡ Up view → ViewCarries (IsAsked config (asked_in config before)) (IsValid config) view
   view_carries id view here = subst (λ (h : Host). HostCarries (IsAsked config (asked_in config before)) (IsValid config) h) here ((all_keep config before ran).carried.hosts id.0)
 
-  lines_of : WorldLines config b
+  pub lines_of : WorldLines config b
   lines_of = run_lines config before (record { valid = valid; may = ran })
 
-  up_lines : (id : NodeId) (view : View) → b.hosts id.0 ≡ Up view → UpLines config (past [] b.lines) id.0 view
+  pub up_lines : (id : NodeId) (view : View) → b.hosts id.0 ≡ Up view → UpLines config (past [] b.lines) id.0 view
   up_lines id view here = subst (λ (h : Host). HostLines config (past [] b.lines) id.0 h) here (lines_of.hosts id.0)
 
   event_said : (id : NodeId) (event : Event) → MayCome b id event → EventSaid config (past [] b.lines) id event
@@ -298,7 +298,7 @@ module _ (config : Config) (valid : IsValid config) (before : List Happening) (r
       (subst (λ (x : NodeId). EventSaid config lines x event) (sym u.id) (event_said id event may))).rings_stay
 
   -- what the part of a ring has to do with the ring's machine
-  part_stands : (table : RingTable) → Has config.rings table → (id : NodeId) (view : View) → b.hosts id.0 ≡ Up view
+  pub part_stands : (table : RingTable) → Has config.rings table → (id : NodeId) (view : View) → b.hosts id.0 ≡ Up view
       → (t : Tied config table machine.empty (history config before at_first)) × ViewStands (ring_of config id table) (durables t.machine_world) (t.machine_world (seat table id)).durable view
   part_stands table has id view here =
       let t = reached config table valid has before ran in
@@ -333,7 +333,7 @@ module _ (config : Config) (valid : IsValid config) (before : List Happening) (r
       view (view_valid id view here) (view_carries id view here) u.whole event (event_valid config (are_numbered config valid) b id event may (runs_valid config valid before ran))
       (came_carries (IsAsked config (asked_in config before)) (IsValid config) b id event may (all_keep config before ran).carried) (event_fits id event w may)
 
-  stepped_fits : (id : NodeId) (view : View) (event : Event) → WorldFits config b → b.hosts id.0 ≡ Up view → UpFits config id view → MayCome b id event → UpFits config id (step config view event).view
+  pub stepped_fits : (id : NodeId) (view : View) (event : Event) → WorldFits config b → b.hosts id.0 ≡ Up view → UpFits config id view → MayCome b id event → UpFits config id (step config view event).view
   stepped_fits id view event w here u may = record { there = u.there; rings = rings_stay id view event here may ∙ u.rings; whole = (made id view event w here u may).view }
 
   sent_fit : (id : NodeId) (view : View) (frames : List Sent) → b.hosts id.0 ≡ Up view → IsNode config id → AllByRecursion (SentFits view.id) frames → AllByRecursion (FromFits config) frames
