@@ -1,5 +1,5 @@
 -- What a schedule asks is a command, and what it shows is a node of the deployment.
-use Rattle.std.proofs.Common.{◌≡◌, ◌⊎◌, inl, inr, ℕ, zero, suc, ◌+◌, ◌<◌, ◌≤◌, ◌^◌, Bool, true, false, true≢false, ◌&&◌, ◌||◌, List, [], ◌∷◌, ◌++◌, length, map, Option, Some, None, refl, sym, ◌∙◌, ap, subst, arith}
+use Rattle.std.proofs.Common.{◌≡◌, ◌⊎◌, inl, inr, ℕ, ◌+◌, ◌<◌, ◌≤◌, Bool, true, false, true≢false, ◌&&◌, ◌||◌, List, [], ◌∷◌, ◌++◌, length, map, Option, Some, None, refl, sym, arith}
 use Rattle.std.specs.Prelude.{◌==◌, nat_lt, nat_le, IsTrue, is_some}
 use Rattle.std.specs.List.{AllByRecursion}
 use Rattle.std.specs.Ordering.{nat_cmp, is_lt}
@@ -9,23 +9,20 @@ use Rattle.std.specs.declared.cmp.Ordering.TheVariants.{Less, Equal, Greater}
 use Rattle.std.proofs.lemmas.Bool.{and_parts}
 use Rattle.std.proofs.lemmas.Bool.Decides.{nat_tests}
 use Rattle.hex.specs.Hex.{IsBytes}
-use Rattle.mrp_types.specs.declared.id.NodeId.{NodeId}
 use Rattle.mrp_types.specs.declared.id.LogId.{LogId}
 use Rattle.mrp_config.specs.Config.{Config, node_at}
 use Rattle.mrp_config.specs.Routing.{is_below}
 use Rattle.mrp_config.specs.declared.tables.NodeTable.{NodeTable}
 use Rattle.command_codec.specs.declared.command.Command.{Command}
 use Rattle.command_codec.specs.declared.command.Command.TheVariants.{Append, Multi, ReadLog, TrimLog, Get, Scan, Update, Insert, Delete, Swap}
-use Rattle.command_codec.specs.Fields.{u16_bytes, u64_bytes, string16}
+use Rattle.command_codec.specs.Fields.{u16_bytes, string16}
 use Rattle.command_codec.specs.Spelling.{command_bytes}
-use Rattle.command_codec.specs.Valid.{rises_from, IsRange, IsCommand, HasNumbers}
-use Rattle.schedule.specs.Spelling.{AreBytes, IsAsked, IsEvent, IsSchedule}
-use Rattle.schedule.specs.Spelling as schedules
+use Rattle.command_codec.specs.Valid.{rises_from, IsCommand, HasNumbers}
+use Rattle.schedule.specs.Spelling.{IsAsked, IsEvent}
 use Rattle.state_laws.specs.States.{AreBytes as EachIsByte}
 use Rattle.state_laws.proofs.Bytes.{bytes_each, both_are, u16_are, u64_are}
 use Rattle.state_laws.proofs.Examples.{bytes_by}
 use Rattle.protocol.specs.Client.{MayBeAsked}
-use Rattle.bare_world.specs.Runs.{IsNode}
 use Rattle.world_model.specs.Events.{ScheduleEvent}
 use Rattle.world_model.specs.Events as event
 use Rattle.world_model.specs.Runs.{MayBeScheduled}

@@ -22,39 +22,38 @@ use Rattle.command_codec.specs.declared.reply.Reply.{Reply}
 use Rattle.command_codec.specs.declared.fault.CodecFault.{CodecFault}
 use Rattle.command_codec.specs.Grammar.{reply_of}
 use Rattle.vote_state.specs.declared.ring.RingState.{RingState}
-use Rattle.vote_state.specs.State.{State, IsState, no_votes, ring_at, nothing_kept}
+use Rattle.vote_state.specs.State.{State, no_votes, nothing_kept}
 use Rattle.vote_journal.specs.Journal.{Journal}
 use Rattle.checkpoint.specs.Checkpoints.{Checkpoint, Checkpoints}
 use Rattle.frames.specs.declared.body.Body.{Body}
 use Rattle.frames.specs.declared.body.Body.TheVariants as body
 use Rattle.frames.specs.declared.frame.Frame.{Frame}
 use Rattle.frames.specs.declared.sent.Sent.{Sent}
-use Rattle.beside_rings.specs.Beside.{SameBut, AreSame, Untouched}
+use Rattle.beside_rings.specs.Beside.{AreSame}
 use Rattle.beside_rings.proofs.Recovered.{untouched_begins}
 use Rattle.faithful.specs.Scanners.{past}
 use Rattle.faithful.proofs.Quorum.{all_has}
 use Rattle.protocol.specs.Lines.{Line, Cause}
-use Rattle.protocol.specs.Lines as line
 use Rattle.protocol.specs.Parts.{Ring}
 use Rattle.protocol.specs.Rings.{ring_of, is_member, is_acceptor}
 use Rattle.protocol.specs.Client.{Asked, ClientView, ClientEffects, idles, acceptor_at, acceptors_of, submit_to, sends_it, asked_first, asks_on, asks_beside, asks, ticks_for, client_ticks, fits, with_part, has_part, have_all, answers, gathered, replied_with, replied_by, replied_for, replied, client_takes}
-use Rattle.protocol.specs.Node.{View, RingPart, Service, Stage, Recovering, Event, Ticks, Takes, Leads, Stepped, StepSoFar, part_in, part_at, begun_with}
+use Rattle.protocol.specs.Node.{View, RingPart, Recovering, Event, Ticks, Takes, Leads, StepSoFar, part_in, begun_with}
 use Rattle.protocol.specs.Opening.{part_of_ring, parts_of, view_of, begins_first, opened}
 use Rattle.protocol.specs.Step.{step}
-use Rattle.bare_world.specs.Worlds.{Possible, Host, Up, Down, World, Happening, Steps, Breaks, Crashes, Opens, Fails, Asks, ClientTicks, ClientTakes, Shows, Lists, nothing, possible_of, chosen, with_host, after_step, steps_as, breaks_as, crashes_as, opens_as, fails_as, goes_down, client_step, happens}
-use Rattle.bare_world.specs.Runs.{IsNode, WasSent, MayCome, MayOpenAt, MayLeaveAt, MayHappen, run, MayRun}
+use Rattle.bare_world.specs.Worlds.{Possible, Host, Up, Down, World, Happening, Steps, Breaks, Crashes, Opens, Fails, Asks, ClientTicks, ClientTakes, Shows, Lists, nothing, possible_of, chosen, steps_as, breaks_as, crashes_as, opens_as, fails_as, goes_down, client_step, happens}
+use Rattle.bare_world.specs.Runs.{IsNode, MayCome, MayOpenAt, MayLeaveAt, MayHappen, run, MayRun}
 use Rattle.bare_world.proofs.Onward.{run_both, may_both}
 use Rattle.step_valid.specs.Valid.{ViewValid}
 use Rattle.valid_runs.specs.Worlds.{HostValid}
 use Rattle.valid_runs.proofs.Running.{event_valid, runs_valid}
 use Rattle.ask_laws.specs.Asks.{asked_in, IsAsked}
 use Rattle.plain_model.proofs.TupleOrder.{same_number}
-use Rattle.ask_laws.specs.Carried.{VotesCarry, PossibleCarries, NewestKeeps, StateCarries, ViewCarries, HostCarries}
+use Rattle.ask_laws.specs.Carried.{VotesCarry, PossibleCarries, NewestKeeps, ViewCarries, HostCarries}
 use Rattle.ask_laws.proofs.Given.{entry_of_bytes}
 use Rattle.ask_laws.proofs.Hosts.{came_carries}
 use Rattle.ask_laws.proofs.Worlds.{all_keep}
-use Rattle.recovery_lines.specs.Ties.{IsFit, IsPlaced, PartySaid, IsSaid, ReplicaLines, ViewLines, rings_in}
-use Rattle.step_lines.specs.Effects.{EventSaid, LeftTold}
+use Rattle.recovery_lines.specs.Ties.{IsPlaced, PartySaid, IsSaid, ReplicaLines, ViewLines, rings_in}
+use Rattle.step_lines.specs.Effects.{EventSaid}
 use Rattle.step_lines.proofs.Whole.{step_left}
 use Rattle.line_runs.specs.Invariant.{node, UpLines, HostLines, WorldLines}
 use Rattle.line_runs.proofs.Fitting.{valid_fits}
@@ -62,11 +61,11 @@ use Rattle.line_runs.proofs.Laws.{run_lines}
 use Rattle.ring_steps.specs.Stands.{PartStands, ViewStands}
 use Rattle.ring_safety.specs.Worlds as machine
 use Rattle.ring_safety.specs.Worlds.{durables}
-use Rattle.ring_runs.specs.Histories.{History, at_first, history}
+use Rattle.ring_runs.specs.Histories.{at_first, history}
 use Rattle.ring_runs.specs.Seats.{seat}
 use Rattle.ring_runs.specs.Standing.{HostStands, Tied}
 use Rattle.ring_runs.proofs.Whole.{world_of, reached}
-use Rattle.step_shape.specs.Shaped.{BodyFits, MayGo, SentFits, FrameFits, IsOutside, PartFits, MemberFits, NewestFits, ViewFits, EventFits, StepFits, KeepsNothing}
+use Rattle.step_shape.specs.Shaped.{BodyFits, MayGo, SentFits, FrameFits, MemberFits, NewestFits, ViewFits, EventFits, StepFits, KeepsNothing}
 use Rattle.step_shape.proofs.Ending.{are_numbered, tables_differ, partitions_fit, step_fits, opened_fits}
 use Rattle.world_shape.specs.Shape.{rings_of}
 

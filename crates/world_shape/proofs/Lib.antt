@@ -1,3 +1,4 @@
 pub mod Fitting
 pub mod Spelled
 pub mod Shaping
+pub mod Disks

@@ -1,6 +1,6 @@
 -- Every world that a run reaches has its shape.
-use Rattle.std.proofs.Common.{◌≡◌, inl, inr, ℕ, zero, suc, ◌+◌, ◌<◌, ◌≤◌, ◌^◌, Bool, true, false, true≢false, List, [], ◌∷◌, ◌++◌, length, map, filter, Option, Some, None, refl, sym, ◌∙◌, ap, subst, arith}
-use Rattle.std.specs.Prelude.{◌==◌, if◌then◌else◌, Result, Ok, Err}
+use Rattle.std.proofs.Common.{◌≡◌, ℕ, ◌+◌, ◌<◌, ◌≤◌, Bool, true, false, true≢false, List, [], ◌∷◌, ◌++◌, map, filter, Option, Some, None, refl, sym, ◌∙◌, ap, subst, arith}
+use Rattle.std.specs.Prelude.{◌==◌, if◌then◌else◌, Ok}
 use Rattle.std.specs.List.{AllByRecursion}
 use Rattle.std.proofs.lemmas.Bool.Decides.{nat_tests}
 use Rattle.mrp_types.specs.declared.id.NodeId.{NodeId}
@@ -19,35 +19,29 @@ use Rattle.mrp_config.specs.declared.tables.NodeTable.{NodeTable}
 use Rattle.mrp_config.specs.declared.tables.ClientTable.{ClientTable}
 use Rattle.mrp_config.specs.declared.tables.RingTable.{RingTable}
 use Rattle.mrp_config.specs.declared.tables.PartitionTable.{PartitionTable}
-use Rattle.quorums.specs.Groups.{Has}
 use Rattle.quorums.proofs.Each.{mapped}
 use Rattle.plain_model.specs.Tuples.{round_sizes}
 use Rattle.plain_model.proofs.TupleOrder.{same_number}
-use Rattle.vote_state.specs.declared.change.Change.{Change}
-use Rattle.vote_state.specs.State.{State, IsState, ring_at, taken}
-use Rattle.vote_state.specs.Valid.{IsRing, IsChange}
+use Rattle.vote_state.specs.State.{State, ring_at, taken}
+use Rattle.vote_state.specs.Valid.{IsRing}
 use Rattle.frames.specs.declared.body.Body.{Body}
 use Rattle.frames.specs.declared.body.Body.TheVariants as body
-use Rattle.frames.specs.declared.frame.Frame.{Frame}
 use Rattle.frames.specs.declared.sent.Sent.{Sent}
-use Rattle.frames.specs.Valid.{MaySend, HasId}
 use Rattle.faithful.specs.Scanners.{past}
 use Rattle.faithful.proofs.Quorum.{all_has}
-use Rattle.protocol.specs.Lines.{Line}
-use Rattle.protocol.specs.Parts.{Ring, Campaign, Role, Idle, Active}
-use Rattle.protocol.specs.Rings.{ring_of, is_member, is_acceptor}
-use Rattle.protocol.specs.Node.{View, RingPart, Service, Event, Work, Nothing, Records, Saves, Compacts, Stepped, part_in, part_at}
+use Rattle.protocol.specs.Parts.{Ring, Role, Idle, Active}
+use Rattle.protocol.specs.Rings.{ring_of, is_member}
+use Rattle.protocol.specs.Node.{View, RingPart, Service, Event, Work, Nothing, Records, Saves, Compacts, part_in, part_at}
 use Rattle.protocol.specs.Step.{step}
 use Rattle.beside_rings.specs.Beside.{changes_in}
 use Rattle.ring_kept.specs.Kept.{kept_after}
 use Rattle.ring_kept.proofs.Keeping.{ring_taken}
 use Rattle.ring_safety.specs.Faces.{Face}
 use Rattle.ring_tables.specs.Ties.{acceptors, RoleTies}
-use Rattle.ring_steps.specs.Stands.{PartStands, ViewStands}
 use Rattle.bare_world.specs.Worlds.{Possible, Host, Up, Down, World, Happening, Steps, nothing, steps_as}
-use Rattle.bare_world.specs.Runs.{IsNode, IsClient, MayCome, run, MayRun}
+use Rattle.bare_world.specs.Runs.{IsNode, MayCome, run, MayRun}
 use Rattle.bare_world.proofs.Onward.{run_both, may_both}
-use Rattle.step_valid.specs.Valid.{BodyValid, SentValid, RoleValid, IsMemberOf, MemberValid, ViewValid, StepValid}
+use Rattle.step_valid.specs.Valid.{BodyValid, SentValid, RoleValid, MemberValid, ViewValid, StepValid}
 use Rattle.step_valid.proofs.Going.{member_numbered}
 use Rattle.vote_journal.specs.Journal.{Journal}
 use Rattle.vote_state.specs.declared.ring.RingState.{RingState}
@@ -57,17 +51,16 @@ use Rattle.valid_runs.proofs.Running.{event_valid, runs_valid}
 use Rattle.ask_laws.specs.Asks.{asked_in, IsAsked}
 use Rattle.ask_laws.specs.Carried.{PartyCarries, SentCarries}
 use Rattle.ask_laws.proofs.Worlds.{all_keep}
-use Rattle.recovery_lines.specs.Ties.{TellsTuple, BodySaid, PartySaid, IsSaid, ReplicaLines, rings_in}
-use Rattle.line_runs.specs.Invariant.{node, WorldLines}
+use Rattle.recovery_lines.specs.Ties.{TellsTuple, PartySaid, IsSaid, ReplicaLines, rings_in}
 use Rattle.disk_states.specs.Works.{journal_after}
 use Rattle.bare_ties.proofs.Changing.{step_by}
 use Rattle.disk_runs.proofs.Tuples.{known_spelled}
 use Rattle.disk_runs.proofs.Works.{listed}
 use Rattle.step_shape.specs.Shaped.{BodyFits, MayGo, MemberFits}
 use Rattle.step_shape.proofs.Ending.{are_numbered}
-use Rattle.world_shape.specs.Shape.{rings_of, served, CampaignShape, RoleShape, PartShape, NodeShape, HostShape, StepShape, SentShape, WorldShape}
+use Rattle.world_shape.specs.Shape.{served, RoleShape, PartShape, NodeShape, HostShape, StepShape, SentShape, WorldShape}
 use Rattle.world_shape.proofs.Spelled.{HasTuples, spelled_body, short_frame, has_widths}
-use Rattle.world_shape.proofs.Fitting.{HostFits, UpFits, DownFits, FromFits, PartyFits, WorldFits, blank, lines_of, up_lines, view_valid, part_stands, found_part, stepped_fits, runs_fit}
+use Rattle.world_shape.proofs.Fitting.{HostFits, UpFits, FromFits, PartyFits, WorldFits, blank, lines_of, up_lines, view_valid, part_stands, found_part, runs_fit}
 
 -- ---- parts in the order of their rings
 
@@ -242,10 +235,10 @@ module _ (config : Config) (valid : IsValid config) (before : List Happening) (r
         rings = u.rings;
         parts = each_found 0 view.parts (subst (λ (rs : List Ring). Rising 0 rs) (sym u.rings) (rings_rise config id 0 config.rings valid.rings.ids)) (PartShape view.journal.state)
             (λ ring p e.
-                let f = found_part_of id view here ring p e in
-                let m = found_part (MemberValid config view.id) view.parts ring p v.parts e in
-                let fits = found_part MemberFits view.parts ring p u.whole.parts e in
-                record { journal = f.journal; kept = m.part.kept; role = f.role; held = m.part.ordered; outside = fits.outside });
+            let f = found_part_of id view here ring p e in
+            let m = found_part (MemberValid config view.id) view.parts ring p v.parts e in
+            let fits = found_part MemberFits view.parts ring p u.whole.parts e in
+            record { journal = f.journal; kept = m.part.kept; role = f.role; held = m.part.ordered; outside = fits.outside });
         serves = by view.service lines.replica;
         state = v.state;
       }

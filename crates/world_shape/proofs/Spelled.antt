@@ -1,11 +1,8 @@
 -- A frame of which all is kept that is kept of frames has a spelling, in at most 32,768 bytes.
-use Rattle.std.proofs.Common.{◌≡◌, ℕ, ◌+◌, ◌-◌, ◌*◌, ◌<◌, ◌≤◌, ◌^◌, min, List, [], ◌∷◌, length, length-append, refl, arith}
+use Rattle.std.proofs.Common.{◌≡◌, ◌*◌, ◌≤◌, List, [], ◌∷◌, length, length-append, refl, arith}
 use Rattle.std.specs.Prelude.{sum_by, flat_map}
-use Rattle.std.specs.List.{AllByRecursion}
 use Rattle.std.proofs.lemmas.List.Sums.{sum_by-cons}
-use Rattle.mrp_types.specs.declared.id.NodeId.{NodeId}
 use Rattle.mrp_types.specs.declared.id.Party.{Party}
-use Rattle.mrp_types.specs.declared.id.Party.TheVariants.{Node, Client}
 use Rattle.mrp_types.specs.declared.voted.Voted.{Voted}
 use Rattle.mrp_types.specs.declared.voted.Decided.{Decided}
 use Rattle.mrp_types.specs.Tuples.{IsTuple}
@@ -15,9 +12,8 @@ use Rattle.frames.specs.declared.body.Body.TheVariants as body
 use Rattle.frames.specs.Spelling.{vote_bytes, decided_bytes, vote_size, decided_size, body_bytes, frame_bytes}
 use Rattle.frames.specs.Valid.{IsBody}
 use Rattle.frames.proofs.Lengths.{vote_length, decided_length, tuple_length, body_length, frame_length}
-use Rattle.protocol.specs.Acceptor.{page_room}
 use Rattle.step_valid.specs.Valid.{BodyValid}
-use Rattle.step_shape.specs.Shaped.{BodyFits, IsVotesPage, IsRangesPage}
+use Rattle.step_shape.specs.Shaped.{BodyFits}
 use Rattle.world_shape.specs.Shape.{HasWidths}
 
 -- the tuples of a frame are tuples

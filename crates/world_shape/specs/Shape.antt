@@ -5,7 +5,6 @@ use Rattle.mrp_types.specs.declared.id.NodeId.{NodeId}
 use Rattle.mrp_types.specs.declared.id.RingId.{RingId}
 use Rattle.mrp_types.specs.declared.id.TheConstants.{END}
 use Rattle.mrp_config.specs.Config.{Config, partition_of}
-use Rattle.mrp_config.specs.declared.tables.RingTable.{RingTable}
 use Rattle.mrp_config.specs.declared.tables.PartitionTable.{PartitionTable}
 use Rattle.range_map.specs.Entries.{IsIncreasingFrom}
 use Rattle.vote_state.specs.State.{State, IsKept, IsState, ring_at}
@@ -15,17 +14,17 @@ use Rattle.frames.specs.declared.body.Body.TheVariants as body
 use Rattle.frames.specs.declared.sent.Sent.{Sent}
 use Rattle.frames.specs.Valid.{IsFrame, HasId}
 use Rattle.ring_kept.specs.Kept.{kept_after}
-use Rattle.protocol.specs.Parts.{Ring, Campaign, Role, Idle, Active, Part}
+use Rattle.protocol.specs.Parts.{Ring, Campaign, Role, Idle, Active}
 use Rattle.protocol.specs.Rings.{ring_of, is_member, is_acceptor}
 use Rattle.protocol.specs.Node.{View, RingPart, Service, Event, Work, Stepped, part_at}
 use Rattle.protocol.specs.Step.{step}
-use Rattle.protocol.specs.Client.{ClientView}
 use Rattle.beside_rings.specs.Beside.{changes_in}
-use Rattle.bare_world.specs.Worlds.{Host, Up, Down, World, nothing}
-use Rattle.bare_world.specs.Runs.{IsNode, MayCome}
+use Rattle.bare_world.specs.Worlds.{Host, Up, Down, World, Happening, nothing}
+use Rattle.bare_world.specs.Runs.{IsNode, MayCome, MayRun}
+use Rattle.world_model.specs.Worlds.{World as DiskWorld}
+use Rattle.disk_runs.specs.Runs.{WorldTies, world_after}
 use Rattle.recovery_lines.specs.Ties.{rings_in}
 use Rattle.step_shape.specs.Shaped.{IsOutside}
-use Rattle.line_runs.specs.Invariant.{node}
 
 -- ---- a node's rings and its partition
 
@@ -111,4 +110,14 @@ pub record WorldShape (config : Config) (w : World) : Type 0 where
   pub clients : (c : ℕ) → (w.clients c).id ≡ record { 0 = c }
   pub steps : (id : NodeId) (view : View) (event : Event) → w.hosts id.0 ≡ Up view → MayCome w id event → StepShape view (step config view event)
   pub works : AllByRecursion (λ (x : NodeId × Work). AllByRecursion IsChange (changes_in x.1)) w.works
+  pub frames : AllByRecursion SentShape w.frames
+
+-- ---- on disks
+
+-- A world on disks is tied to one without bytes that a run has reached and that has its shape; and so each of its frames has it.
+pub record DiskShape (config : Config) (w : DiskWorld) : Type 0 where
+  pub past : List Happening
+  pub may : MayRun config nothing past
+  pub ties : WorldTies config w (world_after config past)
+  pub shape : WorldShape config (world_after config past)
   pub frames : AllByRecursion SentShape w.frames

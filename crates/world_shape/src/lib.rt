@@ -5,11 +5,14 @@
 #![tactic(auto)]
 
 ghost use Rattle.std.specs.Prelude.{List};
+ghost use Rattle.std.specs.List.{AllByRecursion};
 ghost use Rattle.mrp_config.specs.Config.{Config};
 ghost use Rattle.mrp_config.specs.Valid.{IsValid};
 ghost use Rattle.bare_world.specs.Worlds.{Happening, nothing};
 ghost use Rattle.bare_world.specs.Runs.{MayRun, run};
-ghost use Rattle.world_shape.specs.Shape.{WorldShape};
+ghost use Rattle.world_model.specs.Runs.{Happening as DiskHappening, IsRun, run_of};
+ghost use Rattle.disk_runs.specs.Runs.{Fits};
+ghost use Rattle.world_shape.specs.Shape.{DiskShape, WorldShape};
 
 /// Shape and widths. In every run of a valid deployment a node that is up has its number, a part for each of its rings, in their order
 /// and as the deployment has them, and serves exactly the partition of which it is a replica; lists by instance increase, each acceptor
@@ -19,4 +22,10 @@ ghost use Rattle.world_shape.specs.Shape.{WorldShape};
 /// of a round and of an epoch.
 pub fn every_run_has_its_shape()
     ensures { (config : Config) → IsValid config → (hs : List Happening) → MayRun config nothing hs → WorldShape config (run config hs nothing) }
+{}
+
+/// So has every run of nodes on disks: its world is tied, node by node and frame by frame, to one without bytes that has its shape. Each
+/// of its frames has a spelling, with numbers that fit.
+pub fn every_run_on_disks_has_its_shape()
+    ensures { (config : Config) → IsValid config → (xs : List DiskHappening) → IsRun config xs → AllByRecursion (Fits config) xs → DiskShape config (run_of config xs).world }
 {}
