@@ -49,9 +49,9 @@ use Rattle.step_shape.proofs.Recovering.{answered_keeps, part_keeps, gone_keeps,
 use Rattle.step_shape.proofs.Going.{Whole, Made, own_ring, ground, leaves, applies_whole}
 
 module _ (config : Config) (numbered : AreNumbered config) (unique : (t u : RingTable) → Has config.rings t → Has config.rings u → t.id.0 ≡ u.id.0 → t ≡ u)
-    (Is : ℕ → Entry → Type 0) (Valid : Type 0) (known : Valid) (entry : (r : ℕ) (e : Entry) → Is r e → IsEntry e) (given : Valid → (r : ℕ) (e : Entry) → Is r e → IsOfBytes e) (id : NodeId) where
+    (Is : ℕ → Entry → Type 0) (Valid : Type 0) (known : Valid) (entry : (r : ℕ) (e : Entry) → Is r e → IsEntry e) (given : Valid → (r : ℕ) (e : Entry) → Is r e → IsOfBytes e) (fine : ℕ → Type 0) (id : NodeId) where
   abbrev Goes : StepSoFar → Type 0
-  Goes a = Whole config id Is Valid a
+  Goes a = Whole config fine id Is Valid a
 
   -- a part of a ring of this number, by the three laws together
   pub record IsHere (fr : RingId) (ring : Ring) (part : Part) : Type 0 where
@@ -64,17 +64,17 @@ module _ (config : Config) (numbered : AreNumbered config) (unique : (t u : Ring
 
   -- what a rule makes of such a part
   abbrev MemberRule : RingId → (Ring → Part → Effects) → Type 0
-  MemberRule fr effects = (r : Ring) (part : Part) → IsHere fr r part → Made r id Is Valid (effects r part)
+  MemberRule fr effects = (r : Ring) (part : Part) → IsHere fr r part → Made r fine id Is Valid (effects r part)
 
   abbrev AcceptorRule : RingId → (Ring → Part → Effects) → Type 0
-  AcceptorRule fr effects = (r : Ring) (part : Part) → IsHere fr r part → is_acceptor r ≡ true → Made r id Is Valid (effects r part)
+  AcceptorRule fr effects = (r : Ring) (part : Part) → IsHere fr r part → is_acceptor r ≡ true → Made r fine id Is Valid (effects r part)
 
   here : (fr : RingId) (a : StepSoFar) (p : RingPart) → part_at a.view fr ≡ Some p → Goes a → IsHere fr p.ring p.part × MemberValid config id p
   here fr a p e w =
       let v = found (MemberValid config id) a.view.parts fr p w.valid.parts e in
       let c = subst (λ (o : Option RingPart). FoundCarries Is Valid fr o) e (part_found Is Valid fr a.view.parts w.carries.view.parts) in
       let f = found MemberFits a.view.parts fr p w.fits.view.parts e in (
-        record { number = member_numbered config id p.ring numbered v.of_ring; mine = own_ring config numbered unique Is Valid known entry given id p.ring v.of_ring; same = c.0; valid = v.part; carries = c.1; fits = f },
+        record { number = member_numbered config id p.ring numbered v.of_ring; mine = own_ring config numbered unique Is Valid known entry given fine id p.ring v.of_ring; same = c.0; valid = v.part; carries = c.1; fits = f },
         v,
       )
 
@@ -86,7 +86,7 @@ module _ (config : Config) (numbered : AreNumbered config) (unique : (t u : Ring
       go None e = w
       go (Some p) e =
           let h = here fr a p e w in
-          applies_whole config numbered unique Is Valid known entry given id p.ring h.1.of_ring (effects p.ring p.part a) a (rule p.ring p.part h.0) w
+          applies_whole config numbered unique Is Valid known entry given fine id p.ring h.1.of_ring (effects p.ring p.part a) a (rule p.ring p.part h.0) w
 
   acceptor_made : (fr : RingId) (p : RingPart) (effects : Ring → Part → Effects) (a : StepSoFar) → AcceptorRule fr effects → part_at a.view fr ≡ Some p → Goes a
       → Goes (if is_acceptor p.ring then applies_effects config p.ring (effects p.ring p.part) a else a)
@@ -95,7 +95,7 @@ module _ (config : Config) (numbered : AreNumbered config) (unique : (t u : Ring
       go : (b : Bool) → is_acceptor p.ring ≡ b → Goes (if b then applies_effects config p.ring (effects p.ring p.part) a else a)
       go true acceptor =
           let h = here fr a p e w in
-          applies_whole config numbered unique Is Valid known entry given id p.ring h.1.of_ring (effects p.ring p.part) a (rule p.ring p.part h.0 acceptor) w
+          applies_whole config numbered unique Is Valid known entry given fine id p.ring h.1.of_ring (effects p.ring p.part) a (rule p.ring p.part h.0 acceptor) w
       go false acceptor = w
 
   acceptor_goes : (fr : RingId) (effects : Ring → Part → StepSoFar → Effects) (a : StepSoFar) → AcceptorRule fr (λ r part. effects r part a) → Goes a
@@ -125,12 +125,12 @@ module _ (config : Config) (numbered : AreNumbered config) (unique : (t u : Ring
           (λ r part h acc. record {
             valid = valid_submits r h.number a.view.link part h.valid hops client seq command is;
             carries = submits_made Is Valid entry r a.view.link part hops client seq command (subst (λ (n : ℕ). Is n (record { client = client; seq = seq; command = command })) (sym h.same) asked) h.carries;
-            fits = fits_submits r h.number id h.mine acc a.view.link part h.valid h.fits hops client seq command is;
+            fits = fits_submits r h.number fine id h.mine acc a.view.link part h.valid h.fits hops client seq command is;
           }) w
 
   after_trimmed : (fr : RingId) (trim : ℕ) (a : StepSoFar) → Goes a → Goes (recovers_if_trimmed config fr trim a)
-  after_trimmed fr trim a w = leaves config numbered unique Is Valid known entry given id a (recovers_if_trimmed config fr trim a) (untouched_recovers_if_trimmed config fr trim a) (trimmed_act Is Valid given config fr trim a w.carries)
-      (recovers_if_trimmed_keeps Is (given known) id config fr trim a (ground config numbered unique Is Valid known entry given id a w)) w
+  after_trimmed fr trim a w = leaves config numbered unique Is Valid known entry given fine id a (recovers_if_trimmed config fr trim a) (untouched_recovers_if_trimmed config fr trim a) (trimmed_act Is Valid given config fr trim a w.carries)
+      (recovers_if_trimmed_keeps Is (given known) fine id config fr trim a (ground config numbered unique Is Valid known entry given fine id a w)) w
 
   trim_goes : (fr : RingId) (trim : ℕ) → IsInst trim → (a : StepSoFar) → Goes a → (o : Option RingPart) → part_at a.view fr ≡ o → Goes (handles_trim_at config fr trim o a)
   trim_goes fr trim is a w None e = w
@@ -140,7 +140,7 @@ module _ (config : Config) (numbered : AreNumbered config) (unique : (t u : Ring
       (λ r part h acc. record {
         valid = valid_trimmed r h.number a.view.link part h.valid trim is;
         carries = trimmed_made Is Valid entry r a.view.link part trim h.carries;
-        fits = fits_trimmed r h.number id h.mine acc a.view.link part h.valid h.fits trim is;
+        fits = fits_trimmed r h.number fine id h.mine acc a.view.link part h.valid h.fits trim is;
       }) e w)
 
   promise_goes : (from : NodeId) (fr : RingId) (ballot lo hi trim : ℕ) (votes : List Voted) → BodyValid (body.Promise fr ballot lo hi trim votes) → VotedCarry Is fr.0 votes → (a : StepSoFar) → Goes a
@@ -154,11 +154,11 @@ module _ (config : Config) (numbered : AreNumbered config) (unique : (t u : Ring
           let x = here fr a p e w in
           let h = x.0 in
           after_trimmed fr trim (applies_effects config p.ring (promised p.ring a.view.link p.part from ballot lo hi trim votes) a)
-          (applies_whole config numbered unique Is Valid known entry given id p.ring x.1.of_ring (promised p.ring a.view.link p.part from ballot lo hi trim votes) a
+          (applies_whole config numbered unique Is Valid known entry given fine id p.ring x.1.of_ring (promised p.ring a.view.link p.part from ballot lo hi trim votes) a
           (record {
             valid = valid_promised p.ring h.number a.view.link p.part h.valid from ballot lo hi trim votes is.3 is.0 is.1 is.2;
             carries = promised_made Is Valid entry p.ring a.view.link p.part from ballot lo hi trim votes (subst (λ (n : ℕ). VotedCarry Is n votes) (sym h.same) carry) h.carries;
-            fits = fits_promised p.ring h.number id h.mine acc a.view.link p.part h.valid h.fits from ballot lo hi trim votes is.3 is.0 is.1 is.2;
+            fits = fits_promised p.ring h.number fine id h.mine acc a.view.link p.part h.valid h.fits from ballot lo hi trim votes is.3 is.0 is.1 is.2;
           }) w)
 
       go : (o : Option RingPart) → part_at a.view fr ≡ o
@@ -166,14 +166,14 @@ module _ (config : Config) (numbered : AreNumbered config) (unique : (t u : Ring
       go None e = w
       go (Some p) e = by_test p e (is_acceptor p.ring) refl
 
-  body_goes : (from : NodeId) (b : Body) → BodyValid b → BodyCarries Is Valid b → BodyFits b → (a : StepSoFar) → Goes a → Goes (handles_body config from b a)
+  body_goes : (from : NodeId) (b : Body) → BodyValid b → BodyCarries Is Valid b → BodyFits fine b → (a : StepSoFar) → Goes a → Goes (handles_body config from b a)
   body_goes from (body.Submit fr hops client seq command) is c f a w = submit_goes fr hops client seq command is c a w
   body_goes from (body.Prepare fr ballot lo) is c f a w =
       acceptor_goes fr (λ r part b. prepares r part from ballot lo) a
       (λ r part h acc. record {
         valid = valid_prepares r h.number part h.valid from ballot lo is;
         carries = prepares_made Is Valid r part from ballot lo h.carries;
-        fits = fits_prepares r h.number id h.mine acc part h.valid h.fits from ballot lo is f.1;
+        fits = fits_prepares r h.number fine id h.mine acc part h.valid h.fits from ballot lo is f.1;
       }) w
   body_goes from (body.Promise fr ballot lo hi trim votes) is c f a w = promise_goes from fr ballot lo hi trim votes is c a w
   body_goes from (body.Refuse fr ballot promise) is c f a w =
@@ -181,81 +181,81 @@ module _ (config : Config) (numbered : AreNumbered config) (unique : (t u : Ring
       (λ r part h acc. record {
         valid = valid_refused r h.number part h.valid ballot promise;
         carries = refused_made Is Valid entry r part ballot promise h.carries;
-        fits = fits_refused r h.number id h.mine acc part h.fits ballot promise;
+        fits = fits_refused r h.number fine id h.mine acc part h.fits ballot promise;
       }) w
   body_goes from (body.Accept fr ballot lo hi mask value) is c f a w =
       acceptor_goes fr (λ r part b. accepts r b.view.link part ballot lo hi mask value) a
       (λ r part h acc. record {
         valid = valid_accepts r h.number a.view.link part h.valid ballot lo hi mask value is.0 is.1;
         carries = accepts_made Is Valid r a.view.link part ballot lo hi mask value (subst (λ (n : ℕ). ValueCarries Is n value) (sym h.same) c) h.carries;
-        fits = fits_accepts r h.number id h.mine acc a.view.link part h.valid h.fits ballot lo hi mask value is.0 f.1;
+        fits = fits_accepts r h.number fine id h.mine acc a.view.link part h.valid h.fits ballot lo hi mask value is.0 f.1;
       }) w
   body_goes from (body.Decide fr lo hi left value) is c f a w =
       member_goes fr (λ r part b. decided r b.view.link part lo hi left value) a
       (λ r part h. record {
         valid = valid_decided r h.number a.view.link part h.valid lo hi left value is;
         carries = decided_made Is Valid entry r a.view.link part lo hi left value (subst (λ (n : ℕ). ValueCarries Is n value) (sym h.same) c) h.carries;
-        fits = fits_decided r h.number id h.mine a.view.link part h.fits lo hi left value f.1;
+        fits = fits_decided r h.number fine id h.mine a.view.link part h.fits lo hi left value f.1;
       }) w
   body_goes from (body.Fetch fr lo) is c f a w =
       acceptor_goes fr (λ r part b. fetches r part from lo) a
       (λ r part h acc. record {
         valid = valid_fetches r h.number part h.valid from lo;
         carries = fetches_made Is Valid r part from lo h.carries;
-        fits = fits_fetches r h.number id h.mine acc part h.valid h.fits from lo;
+        fits = fits_fetches r h.number fine id h.mine acc part h.valid h.fits from lo;
       }) w
   body_goes from (body.Chosen fr ranges) is c f a w =
       member_goes fr (λ r part b. chosen r part ranges) a
       (λ r part h. record {
         valid = valid_chosen r h.number part h.valid ranges is;
         carries = chosen_made Is Valid entry r part ranges (subst (λ (n : ℕ). RangesCarry Is n ranges) (sym h.same) c) h.carries;
-        fits = fits_chosen r h.number id h.mine part h.fits ranges;
+        fits = fits_chosen r h.number fine id h.mine part h.fits ranges;
       }) w
   body_goes from (body.Trimmed fr trim) is c f a w = trim_goes fr trim is a w (part_at a.view fr) refl
   body_goes from (body.TrimTo fr trim) is c f a w = trim_goes fr trim is a w (part_at a.view fr) refl
   body_goes from (body.AskSafe fr round) is c f a w =
-      leaves config numbered unique Is Valid known entry given id a (handles_body config from (body.AskSafe fr round) a) (untouched_safe from fr round a) (safe_act Is Valid given from fr round (safe_of a.view fr a.view.service) a w.carries)
-      (safe_keeps Is (given known) id from fr round a (ground config numbered unique Is Valid known entry given id a w)) w
+      leaves config numbered unique Is Valid known entry given fine id a (handles_body config from (body.AskSafe fr round) a) (untouched_safe from fr round a) (safe_act Is Valid given from fr round (safe_of a.view fr a.view.service) a w.carries)
+      (safe_keeps Is (given known) fine id from fr round a (ground config numbered unique Is Valid known entry given fine id a w)) w
   body_goes from (body.Safe fr round inst) is c f a w =
       acceptor_goes fr (λ r part b. answers r b.view.link part from round inst) a
       (λ r part h acc. record {
         valid = valid_answers r h.number a.view.link part h.valid from round inst is;
         carries = answers_made Is Valid entry r a.view.link part from round inst h.carries;
-        fits = fits_answers r h.number id h.mine acc a.view.link part h.valid h.fits from round inst is;
+        fits = fits_answers r h.number fine id h.mine acc a.view.link part h.valid h.fits from round inst is;
       }) w
   body_goes from (body.AskCheckpoint epoch attempt) is c f a w =
-      leaves config numbered unique Is Valid known entry given id a (handles_body config from (body.AskCheckpoint epoch attempt) a)
+      leaves config numbered unique Is Valid known entry given fine id a (handles_body config from (body.AskCheckpoint epoch attempt) a)
       (untouched_service (λ s. tells_checkpoint s from epoch attempt) (λ s b. untouched_tells s from epoch attempt b) a.view.service a)
       (service_act Is Valid given (λ s. tells_checkpoint s from epoch attempt) (λ s. tells_act Is Valid given s from epoch attempt) a.view.service a w.carries)
-      (service_keeps Is (given known) id (λ s. tells_checkpoint s from epoch attempt) (λ s. tells_keep Is (given known) id s from epoch attempt f) a.view.service a (ground config numbered unique Is Valid known entry given id a w)) w
+      (service_keeps Is (given known) fine id (λ s. tells_checkpoint s from epoch attempt) (λ s. tells_keep Is (given known) fine id s from epoch attempt f.0 f.1) a.view.service a (ground config numbered unique Is Valid known entry given fine id a w)) w
   body_goes from (body.HaveCheckpoint epoch attempt tuple) is c f a w =
-      let g = ground config numbered unique Is Valid known entry given id a w in
-      leaves config numbered unique Is Valid known entry given id a (handles_body config from (body.HaveCheckpoint epoch attempt tuple) a)
+      let g = ground config numbered unique Is Valid known entry given fine id a w in
+      leaves config numbered unique Is Valid known entry given fine id a (handles_body config from (body.HaveCheckpoint epoch attempt tuple) a)
       (untouched_recovering (λ s now. answered_by config s now from epoch attempt tuple) (λ s now b. untouched_answered config s now from epoch attempt tuple b) a.view.service a)
       (recovering_act Is Valid given (λ s now. answered_by config s now from epoch attempt tuple) (λ s now. answered_act Is Valid given config s now from epoch attempt tuple) a.view.service w.carries.view.replica a w.carries)
-      (recovering_keeps Is (given known) id (λ s now. answered_by config s now from epoch attempt tuple) (λ s now able going. answered_keeps Is (given known) id config s now from epoch attempt tuple able going) a.view.service g.replica g.fits.view.replica a g) w
+      (recovering_keeps Is (given known) fine id (λ s now. answered_by config s now from epoch attempt tuple) (λ s now able going. answered_keeps Is (given known) fine id config s now from epoch attempt tuple able going) a.view.service g.replica g.fits.view.replica a g) w
   body_goes from (body.AskPart epoch attempt tuple offset) is c f a w =
-      leaves config numbered unique Is Valid known entry given id a (handles_body config from (body.AskPart epoch attempt tuple offset) a)
+      leaves config numbered unique Is Valid known entry given fine id a (handles_body config from (body.AskPart epoch attempt tuple offset) a)
       (untouched_service (λ s. tells_part config s from epoch attempt tuple offset) (λ s b. untouched_tells_part config s from epoch attempt tuple offset b) a.view.service a)
       (service_act Is Valid given (λ s. tells_part config s from epoch attempt tuple offset) (λ s. tells_part_act Is Valid given config s from epoch attempt tuple offset) a.view.service a w.carries)
-      (service_keeps Is (given known) id (λ s. tells_part config s from epoch attempt tuple offset) (λ s. tells_part_keeps Is (given known) id config s from epoch attempt tuple offset f.0) a.view.service a (ground config numbered unique Is Valid known entry given id a w)) w
+      (service_keeps Is (given known) fine id (λ s. tells_part config s from epoch attempt tuple offset) (λ s. tells_part_keeps Is (given known) fine id config s from epoch attempt tuple offset f.0 f.2) a.view.service a (ground config numbered unique Is Valid known entry given fine id a w)) w
   body_goes from (body.Part epoch attempt tuple offset total bytes) is c f a w =
-      let g = ground config numbered unique Is Valid known entry given id a w in
-      leaves config numbered unique Is Valid known entry given id a (handles_body config from (body.Part epoch attempt tuple offset total bytes) a)
+      let g = ground config numbered unique Is Valid known entry given fine id a w in
+      leaves config numbered unique Is Valid known entry given fine id a (handles_body config from (body.Part epoch attempt tuple offset total bytes) a)
       (untouched_recovering (λ s now. takes_part config s now from epoch attempt tuple offset total bytes) (λ s now b. untouched_part config s now from epoch attempt tuple offset total bytes b) a.view.service a)
       (recovering_act Is Valid given (λ s now. takes_part config s now from epoch attempt tuple offset total bytes) (λ s now. part_act Is Valid given config s now from epoch attempt tuple offset total bytes c) a.view.service w.carries.view.replica a w.carries)
-      (recovering_keeps Is (given known) id (λ s now. takes_part config s now from epoch attempt tuple offset total bytes)
-      (λ s now able going. part_keeps Is (given known) id config s now from epoch attempt tuple offset total bytes (c known) f.2 f.3 f.4 able going) a.view.service g.replica g.fits.view.replica a g) w
+      (recovering_keeps Is (given known) fine id (λ s now. takes_part config s now from epoch attempt tuple offset total bytes)
+      (λ s now able going. part_keeps Is (given known) fine id config s now from epoch attempt tuple offset total bytes (c known) f.2 f.3 f.4 able going) a.view.service g.replica g.fits.view.replica a g) w
   body_goes from (body.Gone epoch attempt asked newer) is c f a w =
-      let g = ground config numbered unique Is Valid known entry given id a w in
-      leaves config numbered unique Is Valid known entry given id a (handles_body config from (body.Gone epoch attempt asked newer) a)
+      let g = ground config numbered unique Is Valid known entry given fine id a w in
+      leaves config numbered unique Is Valid known entry given fine id a (handles_body config from (body.Gone epoch attempt asked newer) a)
       (untouched_recovering (λ s now. takes_gone config s now from epoch attempt asked newer) (λ s now b. untouched_gone config s now from epoch attempt asked newer b) a.view.service a)
       (recovering_act Is Valid given (λ s now. takes_gone config s now from epoch attempt asked newer) (λ s now. gone_act Is Valid given config s now from epoch attempt asked newer) a.view.service w.carries.view.replica a w.carries)
-      (recovering_keeps Is (given known) id (λ s now. takes_gone config s now from epoch attempt asked newer) (λ s now able going. gone_keeps Is (given known) id config s now from epoch attempt asked newer able going) a.view.service g.replica g.fits.view.replica a g) w
+      (recovering_keeps Is (given known) fine id (λ s now. takes_gone config s now from epoch attempt asked newer) (λ s now able going. gone_keeps Is (given known) fine id config s now from epoch attempt asked newer able going) a.view.service g.replica g.fits.view.replica a g) w
   body_goes from (body.Reply client seq partition reply) is c f a w = w
   body_goes from body.Hello is c f a w = w
 
-  pub from_goes : (from : Party) (b : Body) → BodyValid b → PartyCarries Is Valid from b → FrameFits from b → (a : StepSoFar) → Goes a → Goes (handles_from config from b a)
+  pub from_goes : (from : Party) (b : Body) → BodyValid b → PartyCarries Is Valid from b → FrameFits fine from b → (a : StepSoFar) → Goes a → Goes (handles_from config from b a)
   from_goes (Node from) b is c f a w =
       let heard : StepSoFar = record a { view = record a.view { link = with_heard from.0 a.view.link } } in
       body_goes from b is c f heard (record {
@@ -267,7 +267,7 @@ module _ (config : Config) (numbered : AreNumbered config) (unique : (t u : Ring
           replies = w.carries.replies;
           lines = w.carries.lines;
         };
-        fits = record { view = record { parts = w.fits.view.parts; replica = w.fits.view.replica; newest = w.fits.view.newest }; frames = w.fits.frames; replies = w.fits.replies };
+        fits = record { view = record { parts = w.fits.view.parts; replica = w.fits.view.replica; newest = w.fits.view.newest }; frames = w.fits.frames; replies = w.fits.replies; epoch = w.fits.epoch };
       })
   from_goes (Client from) (body.Submit fr hops client seq command) is c f a w = submit_goes fr hops client seq command is c.2 a w
   from_goes (Client from) other is c f a w = w
@@ -277,7 +277,7 @@ module _ (config : Config) (numbered : AreNumbered config) (unique : (t u : Ring
   pub lead_goes : (fr : RingId) (a : StepSoFar) → Goes a → Goes (at_acceptor (λ r part b. applies_effects config r (leads r b.view.link part) b) (part_at a.view fr) a)
   lead_goes fr a w =
       acceptor_goes fr (λ r part b. leads r b.view.link part) a
-      (λ r part h acc. record { valid = valid_leads r h.number a.view.link part h.valid; carries = leads_made Is Valid entry r a.view.link part h.carries; fits = fits_leads r h.number id h.mine acc a.view.link part h.valid h.fits }) w
+      (λ r part h acc. record { valid = valid_leads r h.number a.view.link part h.valid; carries = leads_made Is Valid entry r a.view.link part h.carries; fits = fits_leads r h.number fine id h.mine acc a.view.link part h.valid h.fits }) w
 
   -- ---- a beat
 
@@ -287,16 +287,16 @@ module _ (config : Config) (numbered : AreNumbered config) (unique : (t u : Ring
       let two : StepSoFar = (if again && active then rules_for config fr (λ r part view. resends r view.link part) else (λ b. b)) one in
       let three : StepSoFar = (if trims then rules_for config fr (λ r part view. asks_round r view.link part (safe_of view fr view.service)) else (λ b. b)) two in
       tick_goes fr (λ r part view. levels r view.link part) three
-      (λ r part h acc. record { valid = valid_levels r h.number three.view.link part h.valid; carries = levels_made Is Valid entry r three.view.link part h.carries; fits = fits_levels r h.number id h.mine acc three.view.link part h.valid h.fits })
+      (λ r part h acc. record { valid = valid_levels r h.number three.view.link part h.valid; carries = levels_made Is Valid entry r three.view.link part h.carries; fits = fits_levels r h.number fine id h.mine acc three.view.link part h.valid h.fits })
       (asked trims two
       (resent (again && active) one
       (tick_goes fr (λ r part view. starts_on_tick r view.link part) a
-      (λ r part h acc. record { valid = valid_starts r h.number a.view.link part h.valid; carries = starts_made Is Valid entry r a.view.link part h.carries; fits = fits_starts r h.number id h.mine acc a.view.link part h.valid h.fits }) w)))
+      (λ r part h acc. record { valid = valid_starts r h.number a.view.link part h.valid; carries = starts_made Is Valid entry r a.view.link part h.carries; fits = fits_starts r h.number fine id h.mine acc a.view.link part h.valid h.fits }) w)))
     where
       resent : (b : Bool) (now : StepSoFar) → Goes now → Goes ((if b then rules_for config fr (λ r part view. resends r view.link part) else (λ x. x)) now)
       resent false now v = v
       resent true now v = tick_goes fr (λ r part view. resends r view.link part) now
-          (λ r part h acc. record { valid = valid_resends r h.number now.view.link part h.valid; carries = resends_made Is Valid entry r now.view.link part h.carries; fits = fits_resends r h.number id h.mine acc now.view.link part h.fits }) v
+          (λ r part h acc. record { valid = valid_resends r h.number now.view.link part h.valid; carries = resends_made Is Valid entry r now.view.link part h.carries; fits = fits_resends r h.number fine id h.mine acc now.view.link part h.fits }) v
 
       asked : (b : Bool) (now : StepSoFar) → Goes now → Goes ((if b then rules_for config fr (λ r part view. asks_round r view.link part (safe_of view fr view.service)) else (λ x. x)) now)
       asked false now v = v
@@ -305,7 +305,7 @@ module _ (config : Config) (numbered : AreNumbered config) (unique : (t u : Ring
           (λ r part h acc. record {
             valid = valid_asks_round r h.number now.view.link part h.valid (safe_of now.view fr now.view.service) (safe_is_inst now.view fr now.view.service);
             carries = asks_round_made Is Valid entry r now.view.link part (safe_of now.view fr now.view.service) h.carries;
-            fits = fits_asks_round r h.number id h.mine acc now.view.link part h.valid h.fits (safe_of now.view fr now.view.service) (safe_is_inst now.view fr now.view.service);
+            fits = fits_asks_round r h.number fine id h.mine acc now.view.link part h.valid h.fits (safe_of now.view fr now.view.service) (safe_is_inst now.view fr now.view.service);
           }) v
 
   rings_go : (again trims : Bool) (parts : List RingPart) (a : StepSoFar) → Goes a → Goes (ticks_rings config again trims parts a)
@@ -316,13 +316,13 @@ module _ (config : Config) (numbered : AreNumbered config) (unique : (t u : Ring
   pub beats_go : (parts : List RingPart) (beat : ℕ) (again : Bool) (a : StepSoFar) → Goes a → Goes (beats_with config parts beat again a)
   beats_go parts beat again a w =
       let one : StepSoFar = recovery_ticks_at config again a.view.service a in
-      let g = ground config numbered unique Is Valid known entry given id a w in
+      let g = ground config numbered unique Is Valid known entry given fine id a w in
       on_beat again (ticks_rings config again (beat % config.trim == 0) parts one)
       (rings_go again (beat % config.trim == 0) parts one
-      (leaves config numbered unique Is Valid known entry given id a one (untouched_recovery config again a.view.service a) (recovery_act Is Valid given config again a.view.service w.carries.view.replica a w.carries)
-      (recovery_keeps Is (given known) id config again a.view.service g.replica g.fits.view.replica a g) w))
+      (leaves config numbered unique Is Valid known entry given fine id a one (untouched_recovery config again a.view.service a) (recovery_act Is Valid given config again a.view.service w.carries.view.replica a w.carries)
+      (recovery_keeps Is (given known) fine id config again a.view.service g.replica g.fits.view.replica a g) w))
     where
       on_beat : (b : Bool) (now : StepSoFar) → Goes now → Goes ((if b then asks_on_beat config (beat / config.resend) else (λ x. x)) now)
       on_beat false now v = v
-      on_beat true now v = leaves config numbered unique Is Valid known entry given id now (asks_on_beat config (beat / config.resend) now) (untouched_beat config (beat / config.resend) now) (beat_act Is Valid given config (beat / config.resend) now v.carries)
-          (beat_keeps Is (given known) id config (beat / config.resend) now (ground config numbered unique Is Valid known entry given id now v)) v
+      on_beat true now v = leaves config numbered unique Is Valid known entry given fine id now (asks_on_beat config (beat / config.resend) now) (untouched_beat config (beat / config.resend) now) (beat_act Is Valid given config (beat / config.resend) now v.carries)
+          (beat_keeps Is (given known) fine id config (beat / config.resend) now (ground config numbered unique Is Valid known entry given fine id now v)) v

@@ -47,73 +47,73 @@ rebased_fit service (p ∷ parts) all = (
   rebased_fit service parts all.1,
 )
 
-finished_fits : (id : NodeId) (a : StepSoFar) → SoFarFits id a → StepFits id (finished a)
-finished_fits id a f = record {
+finished_fits : (fine : ℕ → Type 0) (id : NodeId) (a : StepSoFar) → SoFarFits fine id a → StepFits fine id (finished a)
+finished_fits fine id a f = record {
   view = record { parts = f.view.parts; replica = f.view.replica; newest = f.view.newest };
-  frames = append_all (SentFits id) a.frames a.replies f.frames f.replies;
+  frames = append_all (SentFits fine id) a.frames a.replies f.frames f.replies;
 }
 
-ended_fits : (id : NodeId) (a : StepSoFar) → SoFarFits id a → StepFits id (finished (rebases a))
-ended_fits id a f =
-    finished_fits id (rebases a) (record { view = record { parts = rebased_fit a.view.service a.view.parts f.view.parts; replica = f.view.replica; newest = f.view.newest }; frames = f.frames; replies = f.replies })
+ended_fits : (fine : ℕ → Type 0) (id : NodeId) (a : StepSoFar) → SoFarFits fine id a → StepFits fine id (finished (rebases a))
+ended_fits fine id a f =
+    finished_fits fine id (rebases a) (record { view = record { parts = rebased_fit a.view.service a.view.parts f.view.parts; replica = f.view.replica; newest = f.view.newest }; frames = f.frames; replies = f.replies; epoch = f.epoch })
 
 -- ---- a step
 
 module _ (config : Config) (numbered : AreNumbered config) (unique : (t u : RingTable) → Has config.rings t → Has config.rings u → t.id.0 ≡ u.id.0 → t ≡ u)
     (Is : ℕ → Entry → Type 0) (Valid : Type 0) (known : Valid) (entry : (r : ℕ) (e : Entry) → Is r e → IsEntry e) (given : Valid → (r : ℕ) (e : Entry) → Is r e → IsOfBytes e)
-    (view : View) (v : ViewValid config view) (c : ViewCarries Is Valid view) (f : ViewFits view) where
-  begun : (other : View) → other ≡ record view { beat = other.beat; link = other.link } → Whole config view.id Is Valid (begun_with other)
-  begun other same = subst (λ (x : View). Whole config view.id Is Valid (begun_with x)) (sym same) (record {
+    (fine : ℕ → Type 0) (view : View) (v : ViewValid config view) (c : ViewCarries Is Valid view) (f : ViewFits view) (low : fine view.journal.state.epoch) where
+  begun : (other : View) → other ≡ record view { beat = other.beat; link = other.link } → Whole config fine view.id Is Valid (begun_with other)
+  begun other same = subst (λ (x : View). Whole config fine view.id Is Valid (begun_with x)) (sym same) (record {
     valid = record { own = refl; state = v.state; parts = v.parts; changes = tt; frames = tt; replies = tt; lines = tt };
     carries = record { view = record { state = c.state; parts = c.parts; replica = c.replica; newest = c.newest }; changes = tt; frames = tt; replies = tt; lines = tt };
-    fits = record { view = record { parts = f.parts; replica = f.replica; newest = f.newest }; frames = tt; replies = tt };
+    fits = record { view = record { parts = f.parts; replica = f.replica; newest = f.newest }; frames = tt; replies = tt; epoch = low };
   })
 
-  tick_fits : StepFits view.id (ticks config view)
+  tick_fits : StepFits fine view.id (ticks config view)
   unfolding ticks
   tick_fits = by_service view.service (c.replica known) f.replica
     where
-      beaten : StepFits view.id (finished (rebases (beats config view)))
+      beaten : StepFits fine view.id (finished (rebases (beats config view)))
       beaten =
           let now : View = record view { beat = view.beat + 1; link = with_tick view.link } in
-          ended_fits view.id (beats config view)
-          (beats_go config numbered unique Is Valid known entry given view.id view.parts (view.beat + 1) ((view.beat + 1) % config.resend == 0) (begun_with now) (begun now refl)).fits
+          ended_fits fine view.id (beats config view)
+          (beats_go config numbered unique Is Valid known entry given fine view.id view.parts (view.beat + 1) ((view.beat + 1) % config.resend == 0) (begun_with now) (begun now refl)).fits
 
-      compacted : (b : Bool) → StepFits view.id (if b then compacts view else finished (rebases (beats config view)))
+      compacted : (b : Bool) → StepFits fine view.id (if b then compacts view else finished (rebases (beats config view)))
       compacted true = record { view = record { parts = f.parts; replica = f.replica; newest = f.newest }; frames = tt }
       compacted false = beaten
 
-      rest : StepFits view.id (or_compacts config view None)
+      rest : StepFits fine view.id (or_compacts config view None)
       rest = compacted (is_due_to_compact config view)
 
-      by_stage : (service : Service) (stage : Stage) → ServiceFits service → StageKeeps service.partition stage → StepFits view.id (or_compacts config view (saves_stage config view service stage))
+      by_stage : (service : Service) (stage : Stage) → ServiceFits service → StageKeeps service.partition stage → StepFits fine view.id (or_compacts config view (saves_stage config view service stage))
       by_stage service (Recovering attempt) fits sound = rest
       by_stage service (Ready standing) fits sound = go (is_due_to_save config view standing)
         where
-          go : (b : Bool) → StepFits view.id (or_compacts config view (if b then Some (saves view service standing (state_bytes standing.replica)) else None))
+          go : (b : Bool) → StepFits fine view.id (or_compacts config view (if b then Some (saves view service standing (state_bytes standing.replica)) else None))
           go true = record {
             view = record { parts = f.parts; replica = record { attempts = fits.attempts; rings = fits.rings; stage = tt }; newest = sound_short service.partition standing.replica sound };
             frames = tt;
           }
           go false = rest
 
-      by_service : (o : Option Service) → ReplicaKeeps o → ReplicaFits o → StepFits view.id (or_compacts config view (saves_first config view o))
+      by_service : (o : Option Service) → ReplicaKeeps o → ReplicaFits o → StepFits fine view.id (or_compacts config view (saves_first config view o))
       by_service None keeps fits = rest
       by_service (Some service) keeps fits = by_stage service service.stage fits keeps.stage
 
-  pub step_fits : (event : Event) → EventValid event → EventCarries Is Valid event → EventFits event → StepFits view.id (step config view event)
+  pub step_fits : (event : Event) → EventValid event → EventCarries Is Valid event → EventFits fine event → StepFits fine view.id (step config view event)
   unfolding step
   step_fits Ticks is carries fits = tick_fits
   step_fits (Takes frame) is carries fits =
-      ended_fits view.id (handles_from config frame.from frame.body (begun_with view))
-      (from_goes config numbered unique Is Valid known entry given view.id frame.from frame.body is carries fits (begun_with view) (begun view refl)).fits
+      ended_fits fine view.id (handles_from config frame.from frame.body (begun_with view))
+      (from_goes config numbered unique Is Valid known entry given fine view.id frame.from frame.body is carries fits (begun_with view) (begun view refl)).fits
   step_fits (Leads fr) is carries fits =
-      ended_fits view.id (at_acceptor (λ r part b. applies_effects config r (leads r b.view.link part) b) (part_at view fr) (begun_with view))
-      (lead_goes config numbered unique Is Valid known entry given view.id fr (begun_with view) (begun view refl)).fits
+      ended_fits fine view.id (at_acceptor (λ r part b. applies_effects config r (leads r b.view.link part) b) (part_at view fr) (begun_with view))
+      (lead_goes config numbered unique Is Valid known entry given fine view.id fr (begun_with view) (begun view refl)).fits
 
 -- ---- an opening
 
-module _ (config : Config) (numbered : AreNumbered config) (Is : ℕ → Entry → Type 0) (given : (r : ℕ) (e : Entry) → Is r e → IsOfBytes e) (id : NodeId)
+module _ (config : Config) (numbered : AreNumbered config) (Is : ℕ → Entry → Type 0) (given : (r : ℕ) (e : Entry) → Is r e → IsOfBytes e) (fine : ℕ → Type 0) (id : NodeId)
     (partitions : (p : PartitionTable) → partition_of config.partitions id ≡ Some p → HasFewLogs p × AreAtMost 15 (numbers_of_rings p.rings)) where
   opened_parts : (state : State) → StateCarries Is state → KeepsNothing config id state → (tables : List RingTable) → ((t : RingTable) → Has tables t → Has config.rings t)
       → AllByRecursion (λ (p : RingPart). IsMine id p × RingPartCarries Is p × MemberFits p) (parts_of config id state tables)
@@ -137,31 +137,31 @@ module _ (config : Config) (numbered : AreNumbered config) (Is : ℕ → Entry �
   apart [] all = (tt, tt, tt)
   apart (p ∷ parts) all = let rest = apart parts all.1 in ((all.0.0, rest.0), (all.0.1, rest.1), (all.0.2, rest.2))
 
-  pub opened_fits : (journal : Journal) (checkpoints : Checkpoints) → StateCarries Is journal.state → NewestKeeps checkpoints.newest → NewestFits checkpoints.newest → KeepsNothing config id journal.state
-      → StepFits id (opened config id journal checkpoints)
+  pub opened_fits : (journal : Journal) (checkpoints : Checkpoints) → StateCarries Is journal.state → NewestKeeps checkpoints.newest → NewestFits checkpoints.newest → KeepsNothing config id journal.state → fine journal.state.epoch
+      → StepFits fine id (opened config id journal checkpoints)
   unfolding opened
-  opened_fits journal checkpoints c keeps short none =
-      finished_fits id (begins_first config (partition_of config.partitions id) (begun_with (view_of config id journal checkpoints))) (begins (partition_of config.partitions id) refl).fits
+  opened_fits journal checkpoints c keeps short none low =
+      finished_fits fine id (begins_first config (partition_of config.partitions id) (begun_with (view_of config id journal checkpoints))) (begins (partition_of config.partitions id) refl).fits
     where
       parts : AllByRecursion (IsMine id) (parts_of config id journal.state config.rings) × AllByRecursion (RingPartCarries Is) (parts_of config id journal.state config.rings)
           × AllByRecursion MemberFits (parts_of config id journal.state config.rings)
       parts = apart (parts_of config id journal.state config.rings) (opened_parts journal.state c none config.rings (λ t there. there))
 
-      first : Ground Is id (begun_with (view_of config id journal checkpoints))
+      first : Ground Is fine id (begun_with (view_of config id journal checkpoints))
       first = record {
         own = refl;
         mine = parts.0;
         parts = parts.1;
         newest = keeps;
         replica = tt;
-        fits = record { view = record { parts = parts.2; replica = tt; newest = short }; frames = tt; replies = tt };
+        fits = record { view = record { parts = parts.2; replica = tt; newest = short }; frames = tt; replies = tt; epoch = low };
       }
 
-      begins : (o : Option PartitionTable) → partition_of config.partitions id ≡ o → Ground Is id (begins_first config o (begun_with (view_of config id journal checkpoints)))
+      begins : (o : Option PartitionTable) → partition_of config.partitions id ≡ o → Ground Is fine id (begins_first config o (begun_with (view_of config id journal checkpoints)))
       begins None e = first
       begins (Some partition) e =
           let p = partitions partition e in
-          begins_keep Is given id config (record { partition = partition; attempts = 0; stage = Recovering (record { number = 0; ticks = 0; answers = []; choice = None }) })
+          begins_keep Is given fine id config (record { partition = partition; attempts = 0; stage = Recovering (record { number = 0; ticks = 0; answers = []; choice = None }) })
           (record { logs = p.0; attempts = omega arith; rings = p.1 }) (begun_with (view_of config id journal checkpoints)) first
 
 -- ---- what a valid deployment gives

@@ -40,16 +40,16 @@ use Rattle.step_shape.proofs.Tables.{fits_learns, fits_proposing_member}
 use Rattle.step_shape.proofs.Merging.{IsMine, Ground, merges_ground}
 
 -- what is so of a step on its way, by the three laws together
-pub record Whole (config : Config) (id : NodeId) (Is : ℕ → Entry → Type 0) (Valid : Type 0) (a : StepSoFar) : Type 0 where
+pub record Whole (config : Config) (fine : ℕ → Type 0) (id : NodeId) (Is : ℕ → Entry → Type 0) (Valid : Type 0) (a : StepSoFar) : Type 0 where
   pub valid : SoFarValid config id a
   pub carries : ActCarries Is Valid a
-  pub fits : SoFarFits id a
+  pub fits : SoFarFits fine id a
 
 -- and of what a rule of a ring makes
-pub record Made (ring : Ring) (id : NodeId) (Is : ℕ → Entry → Type 0) (Valid : Type 0) (effects : Effects) : Type 0 where
+pub record Made (ring : Ring) (fine : ℕ → Type 0) (id : NodeId) (Is : ℕ → Entry → Type 0) (Valid : Type 0) (effects : Effects) : Type 0 where
   pub valid : EffectsValid effects
   pub carries : EffectsCarry Is Valid ring.id.0 effects
-  pub fits : EffectsFit ring id effects
+  pub fits : EffectsFit ring fine id effects
 
 quiet_line : (config : Config) (id : NodeId) (line : Line) → IsNoLearn line → LineValid config id line
 quiet_line config id (Learn node r lo hi value) quiet = absurd quiet
@@ -65,9 +65,9 @@ put_valid config id fr new (p ∷ parts) v all = go (p.ring.id.0 == fr.0) (put_v
     go false rest = (all.0, rest)
 
 module _ (config : Config) (numbered : AreNumbered config) (unique : (t u : RingTable) → Has config.rings t → Has config.rings u → t.id.0 ≡ u.id.0 → t ≡ u)
-    (Is : ℕ → Entry → Type 0) (Valid : Type 0) (known : Valid) (entry : (r : ℕ) (e : Entry) → Is r e → IsEntry e) (given : Valid → (r : ℕ) (e : Entry) → Is r e → IsOfBytes e) (id : NodeId) where
+    (Is : ℕ → Entry → Type 0) (Valid : Type 0) (known : Valid) (entry : (r : ℕ) (e : Entry) → Is r e → IsEntry e) (given : Valid → (r : ℕ) (e : Entry) → Is r e → IsOfBytes e) (fine : ℕ → Type 0) (id : NodeId) where
   abbrev pub Goes : StepSoFar → Type 0
-  Goes a = Whole config id Is Valid a
+  Goes a = Whole config fine id Is Valid a
 
   -- ---- rings
 
@@ -92,7 +92,7 @@ module _ (config : Config) (numbered : AreNumbered config) (unique : (t u : Ring
 
   -- ---- a replica's rules
 
-  pub ground : (a : StepSoFar) → Goes a → Ground Is id a
+  pub ground : (a : StepSoFar) → Goes a → Ground Is fine id a
   ground a w = record {
     own = w.valid.own;
     mine = mapped (MemberValid config id) (IsMine id) (λ p m. record { number = member_numbered config id p.ring numbered m.of_ring; own = own_ring p.ring m.of_ring }) a.view.parts w.valid.parts;
@@ -102,11 +102,11 @@ module _ (config : Config) (numbered : AreNumbered config) (unique : (t u : Ring
     fits = w.fits;
   }
 
-  pub leaves : (a b : StepSoFar) → Untouched a b → ActCarries Is Valid b → Ground Is id b → Goes a → Goes b
+  pub leaves : (a b : StepSoFar) → Untouched a b → ActCarries Is Valid b → Ground Is fine id b → Goes a → Goes b
   leaves a b u c g w = record { valid = untouched_valid config id a b u w.valid; carries = c; fits = g.fits }
 
   merges_whole : (a : StepSoFar) → Goes a → Goes (merges config a)
-  merges_whole a w = leaves a (merges config a) (merges_untouched config a) (merges_act Is Valid given config a w.carries) (merges_ground Is (given known) id config a (ground a w)) w
+  merges_whole a w = leaves a (merges config a) (merges_untouched config a) (merges_act Is Valid given config a w.carries) (merges_ground Is (given known) fine id config a (ground a w)) w
 
   -- ---- learning, range by range
 
@@ -133,10 +133,11 @@ module _ (config : Config) (numbered : AreNumbered config) (unique : (t u : Ring
         view = record { parts = put_fits ring m part f a.view.parts w.valid.parts w.fits.view.parts; replica = w.fits.view.replica; newest = w.fits.view.newest };
         frames = w.fits.frames;
         replies = w.fits.replies;
+        epoch = w.fits.epoch;
       };
     }
 
-    effects_whole : (effects : Effects) (a : StepSoFar) → Made ring id Is Valid effects → Goes a → Goes (with_effects ring effects a)
+    effects_whole : (effects : Effects) (a : StepSoFar) → Made ring fine id Is Valid effects → Goes a → Goes (with_effects ring effects a)
     effects_whole effects a d w =
         let put = put_whole effects.part a d.valid.part d.carries.part d.fits.part w in
         record {
@@ -156,7 +157,7 @@ module _ (config : Config) (numbered : AreNumbered config) (unique : (t u : Ring
             replies = w.carries.replies;
             lines = append_all (LineCarries Is) a.lines effects.lines w.carries.lines d.carries.lines;
           };
-          fits = record { view = put.fits.view; frames = append_all (SentFits id) a.frames effects.frames w.fits.frames d.fits.frames; replies = w.fits.replies };
+          fits = record { view = put.fits.view; frames = append_all (SentFits fine id) a.frames effects.frames w.fits.frames d.fits.frames; replies = w.fits.replies; epoch = w.fits.epoch };
         }
 
     record QueueWhole (q : Queued) : Type 0 where
@@ -164,7 +165,7 @@ module _ (config : Config) (numbered : AreNumbered config) (unique : (t u : Ring
       ranges : AllByRecursion MayLearn q.ranges
       carried : RangesCarry Is ring.id.0 q.ranges
 
-    queued_whole : (later : List Decided) (effects : Effects) (a : StepSoFar) → AllByRecursion MayLearn later → RangesCarry Is ring.id.0 later → Made ring id Is Valid effects → Goes a → QueueWhole (queued ring later effects a)
+    queued_whole : (later : List Decided) (effects : Effects) (a : StepSoFar) → AllByRecursion MayLearn later → RangesCarry Is ring.id.0 later → Made ring fine id Is Valid effects → Goes a → QueueWhole (queued ring later effects a)
     queued_whole later effects a may carry d w = record {
       so_far = effects_whole effects a d w;
       ranges = append_all MayLearn later effects.learned may d.valid.learned;
@@ -199,7 +200,7 @@ module _ (config : Config) (numbered : AreNumbered config) (unique : (t u : Ring
         (record {
           valid = valid_proposes ring number (no_effects p.part) a.view.link (valid_none ring number p.part there.0);
           carries = proposes_made Is Valid entry ring a.view.link (no_effects p.part) (none_made Is Valid ring p.part there.1);
-          fits = fits_proposing_member ring number id mine a.view.link p.part there.0 there.2;
+          fits = fits_proposing_member ring number fine id mine a.view.link p.part there.0 there.2;
         }) w
 
     one_whole : (range : Decided) (later : List Decided) (o : Option RingPart) (a : StepSoFar) → part_at a.view ring.id ≡ o → MayLearn range → ValueCarries Is ring.id.0 range.value
@@ -211,7 +212,7 @@ module _ (config : Config) (numbered : AreNumbered config) (unique : (t u : Ring
         there = part_of_ring a p e w
 
         now : Goes (with_part ring (learns ring p.part range).part a)
-        now = put_whole (learns ring p.part range).part a (learns_valid ring number p.part range may there.0) (learns_carry Is Valid entry ring p.part range is there.1) (fits_learns ring number id mine p.part there.2 range) w
+        now = put_whole (learns ring p.part range).part a (learns_valid ring number p.part range may there.0) (learns_carry Is Valid entry ring p.part range is there.1) (fits_learns ring number fine id mine p.part there.2 range) w
 
         go : (b : Bool) → (learns ring p.part range).news ≡ b → QueueWhole (by_news config ring range later b (with_part ring (learns ring p.part range).part a))
         go false news = record { so_far = now; ranges = all; carried = carry }
@@ -232,7 +233,7 @@ module _ (config : Config) (numbered : AreNumbered config) (unique : (t u : Ring
                 lines = append_all (LineValid config id) a.lines line now.valid.lines ((w.valid.own, fits), tt);
               };
               carries = prints_act Is Valid line (with_part ring (learns ring p.part range).part a) (is, tt) now.carries;
-              fits = record { view = now.fits.view; frames = now.fits.frames; replies = now.fits.replies };
+              fits = record { view = now.fits.view; frames = now.fits.frames; replies = now.fits.replies; epoch = now.fits.epoch };
             } in
             proposes_whole later (part_at (merges config told).view ring.id) (merges config told) refl all carry (merges_whole told printed)
 
@@ -247,6 +248,6 @@ module _ (config : Config) (numbered : AreNumbered config) (unique : (t u : Ring
             rest (learns_one config ring range later (part_at q.so_far.view ring.id) q.so_far)
             (one_whole range later (part_at q.so_far.view ring.id) q.so_far refl all.0 carry.0 all.1 carry.1 w.so_far)
 
-    pub applies_whole : (effects : Effects) (a : StepSoFar) → Made ring id Is Valid effects → Goes a → Goes (applies_effects config ring effects a)
+    pub applies_whole : (effects : Effects) (a : StepSoFar) → Made ring fine id Is Valid effects → Goes a → Goes (applies_effects config ring effects a)
     unfolding applies_effects
     applies_whole effects a d w = learns_up (2 ^ 44) (queued ring [] effects a) (queued_whole [] effects a tt tt d w)

@@ -64,29 +64,29 @@ pub record IsMine (id : NodeId) (p : RingPart) : Type 0 where
   pub own : p.ring.own ≡ id
 
 -- what the rules of a replica need of a step on its way
-pub record Ground (Is : ℕ → Entry → Type 0) (id : NodeId) (a : StepSoFar) : Type 0 where
+pub record Ground (Is : ℕ → Entry → Type 0) (fine : ℕ → Type 0) (id : NodeId) (a : StepSoFar) : Type 0 where
   pub own : a.view.id ≡ id
   pub mine : AllByRecursion (IsMine id) a.view.parts
   pub parts : AllByRecursion (RingPartCarries Is) a.view.parts
   pub newest : NewestKeeps a.view.checkpoints.newest
   pub replica : ReplicaKeeps a.view.service
-  pub fits : SoFarFits id a
+  pub fits : SoFarFits fine id a
 
-module _ (Is : ℕ → Entry → Type 0) (given : (r : ℕ) (e : Entry) → Is r e → IsOfBytes e) (id : NodeId) where
+module _ (Is : ℕ → Entry → Type 0) (given : (r : ℕ) (e : Entry) → Is r e → IsOfBytes e) (fine : ℕ → Type 0) (id : NodeId) where
   abbrev pub Grounded : StepSoFar → Type 0
-  Grounded a = Ground Is id a
+  Grounded a = Ground Is fine id a
 
   pub prints_ground : (lines : List Line) (a : StepSoFar) → Grounded a → Grounded (prints lines a)
-  prints_ground lines a g = record { own = g.own; mine = g.mine; parts = g.parts; newest = g.newest; replica = g.replica; fits = record { view = g.fits.view; frames = g.fits.frames; replies = g.fits.replies } }
+  prints_ground lines a g = record { own = g.own; mine = g.mine; parts = g.parts; newest = g.newest; replica = g.replica; fits = record { view = g.fits.view; frames = g.fits.frames; replies = g.fits.replies; epoch = g.fits.epoch } }
 
-  pub sends_ground : (frames : List Sent) (a : StepSoFar) → AllByRecursion (SentFits id) frames → Grounded a → Grounded (sends_all frames a)
+  pub sends_ground : (frames : List Sent) (a : StepSoFar) → AllByRecursion (SentFits fine id) frames → Grounded a → Grounded (sends_all frames a)
   sends_ground frames a are g = record {
     own = g.own;
     mine = g.mine;
     parts = g.parts;
     newest = g.newest;
     replica = g.replica;
-    fits = record { view = g.fits.view; frames = append_all (SentFits id) a.frames frames g.fits.frames are; replies = g.fits.replies };
+    fits = record { view = g.fits.view; frames = append_all (SentFits fine id) a.frames frames g.fits.frames are; replies = g.fits.replies; epoch = g.fits.epoch };
   }
 
   pub stage_ground : (service : Service) (stage : Stage) (a : StepSoFar) → HasFewLogs service.partition → StageKeeps service.partition stage → ServiceFits (record service { stage = stage }) → Grounded a
@@ -97,7 +97,7 @@ module _ (Is : ℕ → Entry → Type 0) (given : (r : ℕ) (e : Entry) → Is r
     parts = g.parts;
     newest = g.newest;
     replica = record { logs = logs; stage = keeps };
-    fits = record { view = record { parts = g.fits.view.parts; replica = fits; newest = g.fits.view.newest }; frames = g.fits.frames; replies = g.fits.replies };
+    fits = record { view = record { parts = g.fits.view.parts; replica = fits; newest = g.fits.view.newest }; frames = g.fits.frames; replies = g.fits.replies; epoch = g.fits.epoch };
   }
 
   -- ---- what is learned at a place
@@ -128,7 +128,7 @@ module _ (Is : ℕ → Entry → Type 0) (given : (r : ℕ) (e : Entry) → Is r
   batch_bytes_are : (r : ℕ) (batch : List ℕ) → ValueCarries Is r (Batch batch) → IsBytes batch
   batch_bytes_are r batch is = subst (λ (bytes : List ℕ). IsBytes bytes) (sym is.spelled) (batch_are is.entries (mapped (Is r) IsOfBytes (given r) is.entries is.each))
 
-  replies_fit : (node : NodeId) (service : Service) (replied : List (ℕ × Entry × List ℕ)) → node ≡ id → AllByRecursion IsShortReply replied → AllByRecursion (SentFits id) (map (reply_frame node service) replied)
+  replies_fit : (node : NodeId) (service : Service) (replied : List (ℕ × Entry × List ℕ)) → node ≡ id → AllByRecursion IsShortReply replied → AllByRecursion (SentFits fine id) (map (reply_frame node service) replied)
   replies_fit node service [] own are = tt
   replies_fit node service (r ∷ rs) own are = (record { from = ap (λ (n : NodeId). Node n) own; to = tt; fits = (are.0.text.short, are.0.numbered) }, replies_fit node service rs own are.1)
 
@@ -154,7 +154,8 @@ module _ (Is : ℕ → Entry → Type 0) (given : (r : ℕ) (e : Entry) → Is r
         fits = record {
           view = g.fits.view;
           frames = g.fits.frames;
-          replies = append_all (SentFits id) a.replies (map (reply_frame a.view.id service) applied.replies) g.fits.replies (replies_fit a.view.id service applied.replies g.own (both applied.replies texts numbers));
+          replies = append_all (SentFits fine id) a.replies (map (reply_frame a.view.id service) applied.replies) g.fits.replies (replies_fit a.view.id service applied.replies g.own (both applied.replies texts numbers));
+          epoch = g.fits.epoch;
         };
       })
 

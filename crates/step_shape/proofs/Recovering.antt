@@ -67,17 +67,17 @@ low_ring (r ∷ rings) ring low e = by (r.0 == ring.0) refl e (λ h. low_ring ri
     by true same h later = let at = same_number r.0 ring.0 same in let first = low.0 in omega arith
     by false other h later = later h
 
-module _ (Is : ℕ → Entry → Type 0) (given : (r : ℕ) (e : Entry) → Is r e → IsOfBytes e) (id : NodeId) where
+module _ (Is : ℕ → Entry → Type 0) (given : (r : ℕ) (e : Entry) → Is r e → IsOfBytes e) (fine : ℕ → Type 0) (id : NodeId) where
   abbrev Grounded : StepSoFar → Type 0
-  Grounded a = Ground Is id a
+  Grounded a = Ground Is fine id a
 
   -- a word keeps what the rules of a replica need
   abbrev pub Keeps : (StepSoFar → StepSoFar) → Type 0
   Keeps word = (a : StepSoFar) → Grounded a → Grounded (word a)
 
-  each_fits : {T : Type 0} (h : T → List Sent) → ((x : T) → AllFit id (h x)) → (xs : List T) → AllFit id (flat_map h xs)
+  each_fits : {T : Type 0} (h : T → List Sent) → ((x : T) → AllFit fine id (h x)) → (xs : List T) → AllFit fine id (flat_map h xs)
   each_fits h fits [] = tt
-  each_fits h fits (x ∷ xs) = append_all (SentFits id) (h x) (flat_map h xs) (fits x) (each_fits h fits xs)
+  each_fits h fits (x ∷ xs) = append_all (SentFits fine id) (h x) (flat_map h xs) (fits x) (each_fits h fits xs)
 
   lowered_mine : (tuple : List (RingId × ℕ)) (parts : List RingPart) → AllByRecursion (IsMine id) parts → AllByRecursion (IsMine id) (map (with_lowered tuple) parts)
   lowered_mine tuple [] all = tt
@@ -101,14 +101,14 @@ module _ (Is : ℕ → Entry → Type 0) (given : (r : ℕ) (e : Entry) → Is r
     parts = lowered_carry tuple a.view.parts g.parts;
     newest = g.newest;
     replica = g.replica;
-    fits = record { view = record { parts = lowered_fit tuple a.view.parts g.fits.view.parts; replica = g.fits.view.replica; newest = g.fits.view.newest }; frames = g.fits.frames; replies = g.fits.replies };
+    fits = record { view = record { parts = lowered_fit tuple a.view.parts g.fits.view.parts; replica = g.fits.view.replica; newest = g.fits.view.newest }; frames = g.fits.frames; replies = g.fits.replies; epoch = g.fits.epoch };
   }
 
   printed : (lines : List Line) → Keeps (prints lines)
-  printed lines a g = prints_ground Is given id lines a g
+  printed lines a g = prints_ground Is given fine id lines a g
 
-  sent : (frames : List Sent) (a : StepSoFar) → AllFit id frames → Grounded a → Grounded (sends_all frames a)
-  sent frames a are g = sends_ground Is given id frames a are g
+  sent : (frames : List Sent) (a : StepSoFar) → AllFit fine id frames → Grounded a → Grounded (sends_all frames a)
+  sent frames a are g = sends_ground Is given fine id frames a are g
 
   -- ---- restoring and choosing
 
@@ -118,11 +118,11 @@ module _ (Is : ℕ → Entry → Type 0) (given : (r : ℕ) (e : Entry) → Is r
       let told : StepSoFar = prints (Restore a.view.id (instances tuple) ∷ []) a in
       let lowered : StepSoFar = lowers tuple told in
       let stage : Stage = Ready (record { tuple = tuple; replica = replica; delivered = 0 }) in
-      merges_ground Is given id config (with_stage service stage lowered)
-      (stage_ground Is given id service stage lowered able.logs sound (record { attempts = able.attempts; rings = able.rings; stage = tt }) (lowers_keep tuple told (printed (Restore a.view.id (instances tuple) ∷ []) a g)))
+      merges_ground Is given fine id config (with_stage service stage lowered)
+      (stage_ground Is given fine id service stage lowered able.logs sound (record { attempts = able.attempts; rings = able.rings; stage = tt }) (lowers_keep tuple told (printed (Restore a.view.id (instances tuple) ∷ []) a g)))
 
   stays : (service : Service) (attempt : Attempt) → IsAble service → IsGoing attempt → Keeps (with_stage service (Recovering attempt))
-  stays service attempt able going a g = stage_ground Is given id service (Recovering attempt) a able.logs going.bytes (record { attempts = able.attempts; rings = able.rings; stage = (going.number, going.gathered) }) g
+  stays service attempt able going a g = stage_ground Is given fine id service (Recovering attempt) a able.logs going.bytes (record { attempts = able.attempts; rings = able.rings; stage = (going.number, going.gathered) }) g
 
   read_keeps : (config : Config) (service : Service) (tuple : List (RingId × ℕ)) (bytes : List ℕ) → IsAble service → IsBytes bytes → Keeps (restores_read config service tuple (state_of service.partition bytes))
   read_keeps config service tuple bytes able are a g = by (state_of service.partition bytes) refl
@@ -135,8 +135,8 @@ module _ (Is : ℕ → Entry → Type 0) (given : (r : ℕ) (e : Entry) → Is r
   installs_keep config service None able keeps a g = restores_keep config service (first_tuple service.partition.rings) (empty_replica service.partition) able (sound_empty service.partition able.logs) a g
   installs_keep config service (Some newest) able keeps a g = read_keeps config service newest.tuple newest.state able keeps a g
 
-  asks_part_fit : (view : View) (attempt : Attempt) (choice : Choice) → view.id ≡ id → attempt.number < 2 ^ 32 → length choice.bytes < 2 ^ 64 → AllFit id (asks_part view attempt choice)
-  asks_part_fit view attempt choice own number short = to_fits id view.id choice.from (body.AskPart (epoch_of view) attempt.number choice.tuple (length choice.bytes)) own (number, short)
+  asks_part_fit : (view : View) (attempt : Attempt) (choice : Choice) → view.id ≡ id → fine (epoch_of view) → attempt.number < 2 ^ 32 → length choice.bytes < 2 ^ 64 → AllFit fine id (asks_part view attempt choice)
+  asks_part_fit view attempt choice own low number short = to_fits fine id view.id choice.from (body.AskPart (epoch_of view) attempt.number choice.tuple (length choice.bytes)) own (number, short, low)
 
   gathers_keep : (config : Config) (service : Service) (attempt : Attempt) (choice : Choice) → IsAble service → attempt.number < 2 ^ 32 → IsBytes choice.bytes → length choice.bytes < 2 ^ 64
       → Keeps (gathers config service attempt choice)
@@ -151,7 +151,7 @@ module _ (Is : ℕ → Entry → Type 0) (given : (r : ℕ) (e : Entry) → Is r
       by : (t : Bool) → Grounded (if t then installs_own config service a.view.checkpoints.newest (with_stage service (Recovering (record attempt { choice = Some choice })) a)
           else sends_all (asks_part a.view attempt choice) (with_stage service (Recovering (record attempt { choice = Some choice })) a))
       by true = installs_keep config service a.view.checkpoints.newest able g.newest (with_stage service (Recovering (record attempt { choice = Some choice })) a) now
-      by false = sent (asks_part a.view attempt choice) (with_stage service (Recovering (record attempt { choice = Some choice })) a) (asks_part_fit a.view attempt choice g.own number short) now
+      by false = sent (asks_part a.view attempt choice) (with_stage service (Recovering (record attempt { choice = Some choice })) a) (asks_part_fit a.view attempt choice g.own g.fits.epoch number short) now
 
   chooses_keep : (config : Config) (service : Service) (attempt : Attempt) (best : NodeId × List (RingId × ℕ)) → IsAble service → attempt.number < 2 ^ 32 → Keeps (chooses config service attempt best)
   unfolding chooses
@@ -172,8 +172,8 @@ module _ (Is : ℕ → Entry → Type 0) (given : (r : ℕ) (e : Entry) → Is r
 
   -- ---- attempts
 
-  asks_fit : (view : View) (number : ℕ) (nodes : List NodeId) → view.id ≡ id → number < 2 ^ 32 → AllFit id (flat_map (asks_checkpoint view number) nodes)
-  asks_fit view number nodes own lt = each_fits (asks_checkpoint view number) (λ node. to_fits id view.id node (body.AskCheckpoint (epoch_of view) number) own lt) nodes
+  asks_fit : (view : View) (number : ℕ) (nodes : List NodeId) → view.id ≡ id → fine (epoch_of view) → number < 2 ^ 32 → AllFit fine id (flat_map (asks_checkpoint view number) nodes)
+  asks_fit view number nodes own low lt = each_fits (asks_checkpoint view number) (λ node. to_fits fine id view.id node (body.AskCheckpoint (epoch_of view) number) own (lt, low)) nodes
 
   pub begins_keep : (config : Config) (service : Service) → IsAble service → Keeps (begins config service)
   unfolding begins
@@ -189,7 +189,7 @@ module _ (Is : ℕ → Entry → Type 0) (given : (r : ℕ) (e : Entry) → Is r
           let asked : List Sent = flat_map (asks_checkpoint a.view number) (others_of a.view.id service.partition) in
           quorum_keeps config (record service { attempts = number }) (record { number = number; ticks = 0; answers = (a.view.id, own_tuple a.view service) ∷ []; choice = None })
           (record { logs = able.logs; attempts = low; rings = able.rings }) (record { number = low; gathered = tt; bytes = tt }) (sends_all asked (prints line a))
-          (sent asked (prints line a) (asks_fit a.view number (others_of a.view.id service.partition) g.own low) (printed line a g))
+          (sent asked (prints line a) (asks_fit a.view number (others_of a.view.id service.partition) g.own g.fits.epoch low) (printed line a g))
 
   pub answered_keeps : (config : Config) (service : Service) (attempt : Attempt) (from : NodeId) (epoch number : ℕ) (tuple : List (RingId × ℕ)) → IsAble service → IsGoing attempt
       → Keeps (answered_by config service attempt from epoch number tuple)
@@ -219,7 +219,7 @@ module _ (Is : ℕ → Entry → Type 0) (given : (r : ℕ) (e : Entry) → Is r
       by : (t : Bool) → Grounded (if t then restores_or_begins config service choice.tuple (state_of service.partition choice.bytes) a
           else sends_all (asks_part a.view attempt choice) (with_stage service (Recovering (record attempt { choice = Some choice })) a))
       by true = or_begins_keeps config service choice.tuple choice.bytes able are a g
-      by false = sent (asks_part a.view attempt choice) (with_stage service (Recovering (record attempt { choice = Some choice })) a) (asks_part_fit a.view attempt choice g.own number short)
+      by false = sent (asks_part a.view attempt choice) (with_stage service (Recovering (record attempt { choice = Some choice })) a) (asks_part_fit a.view attempt choice g.own g.fits.epoch number short)
           (stays service (record attempt { choice = Some choice }) able (record { number = number; gathered = short; bytes = are }) a g)
 
   pub part_keeps : (config : Config) (service : Service) (attempt : Attempt) (from : NodeId) (epoch number : ℕ) (tuple : List (RingId × ℕ)) (offset total : ℕ) (bytes : List ℕ) → IsBytes bytes
@@ -255,8 +255,8 @@ module _ (Is : ℕ → Entry → Type 0) (given : (r : ℕ) (e : Entry) → Is r
 
   -- ---- what is asked of this node
 
-  pub tells_keep : (service : Service) (from : NodeId) (epoch number : ℕ) → number < 2 ^ 32 → Keeps (tells_checkpoint service from epoch number)
-  tells_keep service from epoch number lt a g = sent _ a (to_fits id a.view.id from (body.HaveCheckpoint epoch number (own_tuple a.view service)) g.own lt) g
+  pub tells_keep : (service : Service) (from : NodeId) (epoch number : ℕ) → number < 2 ^ 32 → fine epoch → Keeps (tells_checkpoint service from epoch number)
+  tells_keep service from epoch number lt low a g = sent _ a (to_fits fine id a.view.id from (body.HaveCheckpoint epoch number (own_tuple a.view service)) g.own (lt, low)) g
 
   -- a part as long as it is to be, of a state of this length
   abbrev AnswerFits : ℕ → PartAnswer → Type 0
@@ -285,13 +285,13 @@ module _ (Is : ℕ → Entry → Type 0) (given : (r : ℕ) (e : Entry) → Is r
           which false true false e = tt
           which false false inside e = tt
 
-  pub tells_part_keeps : (config : Config) (service : Service) (from : NodeId) (epoch number : ℕ) (tuple : List (RingId × ℕ)) (offset : ℕ) → number < 2 ^ 32 → Keeps (tells_part config service from epoch number tuple offset)
-  tells_part_keeps config service from epoch number tuple offset lt a g = by (is_tuple_of (round_sizes config) service.partition.rings tuple)
+  pub tells_part_keeps : (config : Config) (service : Service) (from : NodeId) (epoch number : ℕ) (tuple : List (RingId × ℕ)) (offset : ℕ) → number < 2 ^ 32 → fine epoch → Keeps (tells_part config service from epoch number tuple offset)
+  tells_part_keeps config service from epoch number tuple offset lt low a g = by (is_tuple_of (round_sizes config) service.partition.rings tuple)
     where
-      answers : (x : PartAnswer) → AnswerFits offset x → AllFit id (flat_map (sends_to a.view.id from) (answer_part epoch number tuple offset x))
-      answers (PartOf total bytes) are = append_all (SentFits id) (sends_to a.view.id from (body.Part epoch number tuple offset total bytes)) []
-          (to_fits id a.view.id from (body.Part epoch number tuple offset total bytes) g.own (lt, are.0, are.1, are.2, are.3)) tt
-      answers (Gone newer) are = append_all (SentFits id) (sends_to a.view.id from (body.Gone epoch number tuple newer)) [] (to_fits id a.view.id from (body.Gone epoch number tuple newer) g.own lt) tt
+      answers : (x : PartAnswer) → AnswerFits offset x → AllFit fine id (flat_map (sends_to a.view.id from) (answer_part epoch number tuple offset x))
+      answers (PartOf total bytes) are = append_all (SentFits fine id) (sends_to a.view.id from (body.Part epoch number tuple offset total bytes)) []
+          (to_fits fine id a.view.id from (body.Part epoch number tuple offset total bytes) g.own (lt, are.0, are.1, are.2, are.3, low)) tt
+      answers (Gone newer) are = append_all (SentFits fine id) (sends_to a.view.id from (body.Gone epoch number tuple newer)) [] (to_fits fine id a.view.id from (body.Gone epoch number tuple newer) g.own (lt, low)) tt
       answers Unknown are = tt
 
       by : (t : Bool) → Grounded (if t then sends_all (flat_map (sends_to a.view.id from) (answer_part epoch number tuple offset (part_of a.view.checkpoints tuple offset))) a else a)
@@ -314,11 +314,11 @@ module _ (Is : ℕ → Entry → Type 0) (given : (r : ℕ) (e : Entry) → Is r
   ticks_keep : (config : Config) (again : Bool) (service : Service) (attempt : Attempt) → IsAble service → IsGoing attempt → Keeps (ticks_attempt config again service attempt)
   ticks_keep config again service attempt able going a g = by (attempt.ticks == config.attempt)
     where
-      missing : (o : Option Choice) → GatheredFits o → AllFit id (asks_missing service attempt o a.view)
-      missing None short = asks_fit a.view attempt.number (filter (λ node. not (has_answered node attempt.answers)) (others_of a.view.id service.partition)) g.own going.number
-      missing (Some choice) short = asks_part_fit a.view attempt choice g.own going.number short
+      missing : (o : Option Choice) → GatheredFits o → AllFit fine id (asks_missing service attempt o a.view)
+      missing None short = asks_fit a.view attempt.number (filter (λ node. not (has_answered node attempt.answers)) (others_of a.view.id service.partition)) g.own g.fits.epoch going.number
+      missing (Some choice) short = asks_part_fit a.view attempt choice g.own g.fits.epoch going.number short
 
-      asked : (t : Bool) → AllFit id (if t then asks_missing service attempt attempt.choice a.view else [])
+      asked : (t : Bool) → AllFit fine id (if t then asks_missing service attempt attempt.choice a.view else [])
       asked true = missing attempt.choice going.gathered
       asked false = tt
 
@@ -364,7 +364,7 @@ module _ (Is : ℕ → Entry → Type 0) (given : (r : ℕ) (e : Entry) → Is r
         where
           by : (t : Bool) → has_ring service.partition.rings ring.0 ≡ t → Grounded (tells_safe from ring round (if t then Some (safe_in ring a.view.checkpoints.newest) else None) a)
           by false e = g
-          by true e = sent _ a (to_fits id a.view.id from (body.Safe ring round (safe_in ring a.view.checkpoints.newest)) g.own (low_ring service.partition.rings ring fits.rings e)) g
+          by true e = sent _ a (to_fits fine id a.view.id from (body.Safe ring round (safe_in ring a.view.checkpoints.newest)) g.own (low_ring service.partition.rings ring fits.rings e)) g
 
   pub service_keeps : (rule : Service → StepSoFar → StepSoFar) → ((s : Service) → Keeps (rule s)) → (o : Option Service) → Keeps (at_service rule o)
   service_keeps rule each None a g = g
@@ -381,14 +381,14 @@ module _ (Is : ℕ → Entry → Type 0) (given : (r : ℕ) (e : Entry) → Is r
 
   -- ---- a beat
 
-  fetch_fits : (own to : NodeId) (ring : RingId) (lo : ℕ) → own ≡ id → IsRing ring → AllFit id (sends_to own to (body.Fetch ring lo))
+  fetch_fits : (own to : NodeId) (ring : RingId) (lo : ℕ) → own ≡ id → IsRing ring → AllFit fine id (sends_to own to (body.Fetch ring lo))
   fetch_fits own to ring lo mine low = go (to.0 == own.0 || nat_le END lo) refl
     where
       under : (x y : Bool) → (x || y) ≡ false → y ≡ false
       under true y e = absurd (true≢false e)
       under false y e = e
 
-      go : (t : Bool) → (to.0 == own.0 || nat_le END lo) ≡ t → AllFit id (if t then [] else (record { to = Node to; frame = record { from = Node own; body = body.Fetch ring lo } }) ∷ [])
+      go : (t : Bool) → (to.0 == own.0 || nat_le END lo) ≡ t → AllFit fine id (if t then [] else (record { to = Node to; frame = record { from = Node own; body = body.Fetch ring lo } }) ∷ [])
       go true e = tt
       go false e =
           let late = under (to.0 == own.0) (nat_le END lo) e in
@@ -414,7 +414,7 @@ module _ (Is : ℕ → Entry → Type 0) (given : (r : ℕ) (e : Entry) → Is r
           let number = m.0.number in
           sent (sends p.ring (turn_of a.view.id p.ring.acceptors turn) (body.Fetch place.0 place.1)) a (to (turn_of a.view.id p.ring.acceptors turn) m.0.own (omega arith)) g
         where
-          to : (o : Option NodeId) → p.ring.own ≡ id → IsRing place.0 → AllFit id (sends p.ring o (body.Fetch place.0 place.1))
+          to : (o : Option NodeId) → p.ring.own ≡ id → IsRing place.0 → AllFit fine id (sends p.ring o (body.Fetch place.0 place.1))
           to None own low = tt
           to (Some node) own low = fetch_fits p.ring.own node place.0 place.1 own low
 
@@ -429,7 +429,7 @@ module _ (Is : ℕ → Entry → Type 0) (given : (r : ℕ) (e : Entry) → Is r
   greets_keep : (config : Config) → Keeps (greets config)
   greets_keep config a g =
       sent (flat_map (λ (node : NodeTable). sends_to a.view.id node.id body.Hello) (filter (shares_ring a.view) config.nodes)) a
-      (each_fits (λ (node : NodeTable). sends_to a.view.id node.id body.Hello) (λ node. to_fits id a.view.id node.id body.Hello g.own tt) (filter (shares_ring a.view) config.nodes)) g
+      (each_fits (λ (node : NodeTable). sends_to a.view.id node.id body.Hello) (λ node. to_fits fine id a.view.id node.id body.Hello g.own tt) (filter (shares_ring a.view) config.nodes)) g
 
   pub beat_keeps : (config : Config) (turn : ℕ) → Keeps (asks_on_beat config turn)
   beat_keeps config turn a g = greets_keep config (fetches_missing config turn a.view.service a) (missing_keeps config turn a.view.service a g)

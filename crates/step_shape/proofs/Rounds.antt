@@ -22,9 +22,9 @@ use Rattle.step_shape.specs.Shaped.{PartFits, EffectsNear, EffectsFit}
 use Rattle.step_shape.proofs.Words.{EffectsNext, each_fit, near_frames, near_trims}
 use Rattle.step_shape.proofs.Tables.{fits_none, ends_fit, proposes_fit}
 
-module _ (ring : Ring) (numbered : IsRing ring.id) (id : NodeId) (mine : ring.own ≡ id) (acceptor : is_acceptor ring ≡ true) where
+module _ (ring : Ring) (numbered : IsRing ring.id) (fine : ℕ → Type 0) (id : NodeId) (mine : ring.own ≡ id) (acceptor : is_acceptor ring ≡ true) where
   abbrev Fits : Effects → Type 0
-  Fits effects = EffectsFit ring id effects
+  Fits effects = EffectsFit ring fine id effects
 
   abbrev AnswerIn : NodeId × ℕ → Type 0
   AnswerIn answer = IsInst answer.1
@@ -66,22 +66,22 @@ module _ (ring : Ring) (numbered : IsRing ring.id) (id : NodeId) (mine : ring.ow
           valid_frames ring numbered (trims_to ring inst (with_line (Trim ring.own ring.id inst) effects)) (sends_each ring (other_acceptors ring) (body.TrimTo ring.id inst))
           (valid_each ring numbered (other_acceptors ring) (body.TrimTo ring.id inst) is) (valid_trims ring numbered (with_line (Trim ring.own ring.id inst) effects) inst is (valid_line ring numbered effects (Trim ring.own ring.id inst) tt d))
 
-  trimmed_near : (effects : Effects) (inst : ℕ) → EffectsNear id effects → EffectsNear id (trims_above ring inst effects)
+  trimmed_near : (effects : Effects) (inst : ℕ) → EffectsNear fine id effects → EffectsNear fine id (trims_above ring inst effects)
   trimmed_near effects inst n = go (nat_lt effects.part.kept.trim inst)
     where
-      go : (b : Bool) → EffectsNear id (if b then trims_all ring inst effects else effects)
+      go : (b : Bool) → EffectsNear fine id (if b then trims_all ring inst effects else effects)
       go false = n
       go true =
-          near_frames ring numbered id mine (trims_to ring inst (with_line (Trim ring.own ring.id inst) effects)) (sends_each ring (other_acceptors ring) (body.TrimTo ring.id inst))
-          (each_fit ring numbered id mine (other_acceptors ring) (body.TrimTo ring.id inst) numbered)
-          (near_trims ring numbered id mine (with_line (Trim ring.own ring.id inst) effects) inst (record { outstanding = n.outstanding; frames = n.frames }))
+          near_frames ring numbered fine id mine (trims_to ring inst (with_line (Trim ring.own ring.id inst) effects)) (sends_each ring (other_acceptors ring) (body.TrimTo ring.id inst))
+          (each_fit ring numbered fine id mine (other_acceptors ring) (body.TrimTo ring.id inst) numbered)
+          (near_trims ring numbered fine id mine (with_line (Trim ring.own ring.id inst) effects) inst (record { outstanding = n.outstanding; frames = n.frames }))
 
-  ends : (link : Link) (round : Round) → AllByRecursion AnswerIn round.answers → (effects : Effects) → EffectsValid effects → EffectsNext id effects → (o : Option ℕ) → ((inst : ℕ) → o ≡ Some inst → IsInst inst)
+  ends : (link : Link) (round : Round) → AllByRecursion AnswerIn round.answers → (effects : Effects) → EffectsValid effects → EffectsNext fine id effects → (o : Option ℕ) → ((inst : ℕ) → o ≡ Some inst → IsInst inst)
       → Fits (ends_by ring link round effects o)
-  ends link round all effects d n None is = ends_fit ring numbered id mine acceptor _ (record { near = record { outstanding = n.near.outstanding; frames = n.near.frames }; next = n.next })
+  ends link round all effects d n None is = ends_fit ring numbered fine id mine acceptor _ (record { near = record { outstanding = n.near.outstanding; frames = n.near.frames }; next = n.next })
   ends link round all effects d n (Some inst) is =
       let now : Effects = with_part (in_round None effects.part) effects in
-      proposes_fit ring numbered id mine acceptor (trims_above ring inst now) link
+      proposes_fit ring numbered fine id mine acceptor (trims_above ring inst now) link
       (trimmed_valid now inst (is inst refl) (record { part = record { kept = d.part.kept; role = d.part.role; round = tt; held = d.part.held; ordered = d.part.ordered }; changes = d.changes; frames = d.frames; learned = d.learned; lines = d.lines }))
       (trimmed_near now inst (record { outstanding = n.near.outstanding; frames = n.near.frames }))
 
@@ -94,14 +94,14 @@ module _ (ring : Ring) (numbered : IsRing ring.id) (id : NodeId) (mine : ring.ow
       own (Some inst) s = answered ring.own inst (next_round part) (s inst refl) tt
 
       go : (b : Bool) → Fits (if b then asks ring link part own_safe else no_effects part)
-      go false = fits_none ring numbered id mine part f
+      go false = fits_none ring numbered fine id mine part f
       go true =
           let round : Round = with_own_answer ring own_safe (next_round part) in
           let asked : List Sent = sends_each ring (by_id (replicas_of ring.subscribers)) (body.AskSafe ring.id (suc part.rounds.asked)) in
           ends link round (own own_safe safe) (with_frames asked (no_effects (with_asked part)))
           (valid_frames ring numbered (no_effects (with_asked part)) asked (valid_each ring numbered (by_id (replicas_of ring.subscribers)) (body.AskSafe ring.id (suc part.rounds.asked)) tt)
           (valid_none ring numbered (with_asked part) (record { kept = p.kept; role = p.role; round = tt; held = p.held; ordered = p.ordered })))
-          (record { near = record { outstanding = f.outstanding; frames = each_fit ring numbered id mine (by_id (replicas_of ring.subscribers)) (body.AskSafe ring.id (suc part.rounds.asked)) numbered }; next = f.next })
+          (record { near = record { outstanding = f.outstanding; frames = each_fit ring numbered fine id mine (by_id (replicas_of ring.subscribers)) (body.AskSafe ring.id (suc part.rounds.asked)) numbered }; next = f.next })
           (least ring round) (least_inst round (own own_safe safe))
 
   pub fits_answers : (link : Link) (part : Part) → PartValid part → PartFits ring part → (from : NodeId) (number inst : ℕ) → IsInst inst → Fits (answers ring link part from number inst)
@@ -109,11 +109,11 @@ module _ (ring : Ring) (numbered : IsRing ring.id) (id : NodeId) (mine : ring.ow
   fits_answers link part p f from number inst is = by_round part.rounds.current p.round
     where
       by_round : (o : Option Round) → RoundValid o → Fits (answers_in ring link part from number inst o)
-      by_round None r = fits_none ring numbered id mine part f
+      by_round None r = fits_none ring numbered fine id mine part f
       by_round (Some current) r = go (number == current.number)
         where
           go : (b : Bool) → Fits (if b then goes_on_round ring link (with_answer ring from inst current) (no_effects part) else no_effects part)
-          go false = fits_none ring numbered id mine part f
+          go false = fits_none ring numbered fine id mine part f
           go true =
               let all = answered from inst current is r in
               ends link (with_answer ring from inst current) all (no_effects part) (valid_none ring numbered part p) (record { near = record { outstanding = f.outstanding; frames = tt }; next = f.next })

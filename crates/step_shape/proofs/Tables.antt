@@ -40,18 +40,18 @@ use Rattle.step_shape.specs.Shaped.{IsOpen, OpenFits, NextFits, IsOutside, PartF
 use Rattle.step_shape.proofs.Pages.{told_page, told_past, learned_page}
 use Rattle.step_shape.proofs.Words.{AllFit, EffectsNext, open_unfinished, next_unfinished, sends_fit, each_fit, near_frames, near_none, near_promises, near_trims, fits_offers, fits_proposes, next_promises, next_promises_anew, next_votes_anew, next_decides_or_forwards}
 
-module _ (ring : Ring) (numbered : IsRing ring.id) (id : NodeId) (mine : ring.own ≡ id) where
+module _ (ring : Ring) (numbered : IsRing ring.id) (fine : ℕ → Type 0) (id : NodeId) (mine : ring.own ≡ id) where
   abbrev pub Fits : Effects → Type 0
-  Fits effects = EffectsFit ring id effects
+  Fits effects = EffectsFit ring fine id effects
 
   pub fits_none : (part : Part) → PartFits ring part → Fits (no_effects part)
   fits_none part f = record { part = f; frames = tt }
 
-  pub fits_sent : (part : Part) → PartFits ring part → (frames : List Sent) → AllFit id frames → Fits (with_frames frames (no_effects part))
+  pub fits_sent : (part : Part) → PartFits ring part → (frames : List Sent) → AllFit fine id frames → Fits (with_frames frames (no_effects part))
   fits_sent part f frames are = record { part = f; frames = are }
 
-  pub begins_next : (part : Part) → PartFits ring part → EffectsNext id (no_effects part)
-  begins_next part f = record { near = near_none ring numbered id mine part f.outstanding; next = f.next }
+  pub begins_next : (part : Part) → PartFits ring part → EffectsNext fine id (no_effects part)
+  begins_next part f = record { near = near_none ring numbered fine id mine part f.outstanding; next = f.next }
 
   -- ---- what any member does
 
@@ -61,7 +61,7 @@ module _ (ring : Ring) (numbered : IsRing ring.id) (id : NodeId) (mine : ring.ow
     where
       go : (left : ℕ) → Fits (with_learned (record { lo = lo; hi = hi; value = value }) (passed_on ring link lo hi left value (no_effects part)))
       go zero = record { part = f; frames = tt }
-      go (suc left) = record { part = f; frames = sends_fit ring numbered id mine (next_member ring link) (body.Decide ring.id lo hi left value) (numbered, some) }
+      go (suc left) = record { part = f; frames = sends_fit ring numbered fine id mine (next_member ring link) (body.Decide ring.id lo hi left value) (numbered, some) }
 
   pub fits_chosen : (part : Part) → PartFits ring part → (ranges : List Decided) → Fits (chosen ring part ranges)
   unfolding chosen
@@ -105,17 +105,17 @@ module _ (ring : Ring) (numbered : IsRing ring.id) (id : NodeId) (mine : ring.ow
     frames = made.near.frames;
   }
     where
-      made : EffectsNext id (proposes ring link part)
-      made = fits_proposes ring numbered id mine (no_effects part) link (valid_none ring numbered part p) (near_none ring numbered id mine part f.outstanding)
+      made : EffectsNext fine id (proposes ring link part)
+      made = fits_proposes ring numbered fine id mine (no_effects part) link (valid_none ring numbered part p) (near_none ring numbered fine id mine part f.outstanding)
 
   -- ---- at an acceptor
 
   module _ (acceptor : is_acceptor ring ≡ true) where
-    pub ends_fit : (effects : Effects) → EffectsNext id effects → Fits effects
+    pub ends_fit : (effects : Effects) → EffectsNext fine id effects → Fits effects
     ends_fit effects n = record { part = record { outstanding = n.near.outstanding; next = n.next; outside = λ e. absurd (true≢false (sym acceptor ∙ e)) }; frames = n.near.frames }
 
-    pub proposes_fit : (effects : Effects) (link : Link) → EffectsValid effects → EffectsNear id effects → Fits (proposes_after ring link effects)
-    proposes_fit effects link d n = ends_fit (proposes_after ring link effects) (fits_proposes ring numbered id mine effects link d n)
+    pub proposes_fit : (effects : Effects) (link : Link) → EffectsValid effects → EffectsNear fine id effects → Fits (proposes_after ring link effects)
+    proposes_fit effects link d n = ends_fit (proposes_after ring link effects) (fits_proposes ring numbered fine id mine effects link d n)
 
     pub fits_prepares : (part : Part) → PartValid part → PartFits ring part → (from : NodeId) (ballot lo : ℕ) → IsBallot ballot → IsInst lo → Fits (prepares ring part from ballot lo)
     unfolding prepares
@@ -127,12 +127,12 @@ module _ (ring : Ring) (numbered : IsRing ring.id) (id : NodeId) (mine : ring.ow
         go : (b c : Bool) → Fits (if b then no_effects part else if c then refuses ring (Some from) ballot part
             else tells_promise ring from ballot lo (promises ring ballot (no_effects part)))
         go true c = fits_none part f
-        go false true = fits_sent part f _ (sends_fit ring numbered id mine (Some from) (body.Refuse ring.id ballot part.kept.promise) (numbered, is, p.kept.promise))
+        go false true = fits_sent part f _ (sends_fit ring numbered fine id mine (Some from) (body.Refuse ring.id ballot part.kept.promise) (numbered, is, p.kept.promise))
         go false false =
-            let next = next_promises ring numbered id mine (no_effects part) ballot (begins_next part f) in
+            let next = next_promises ring numbered fine id mine (no_effects part) ballot (begins_next part f) in
             ends_fit (tells_promise ring from ballot lo (promises ring ballot (no_effects part))) (record {
-              near = near_frames ring numbered id mine (promises ring ballot (no_effects part)) (sends ring (Some from) (promise_of ring ballot lo (with_promise ballot part.kept)))
-                  (sends_fit ring numbered id mine (Some from) (promise_of ring ballot lo (with_promise ballot part.kept)) (numbered, told_past (with_promise ballot part.kept) kept lo inst, told_page (with_promise ballot part.kept) kept lo)) next.near;
+              near = near_frames ring numbered fine id mine (promises ring ballot (no_effects part)) (sends ring (Some from) (promise_of ring ballot lo (with_promise ballot part.kept)))
+                  (sends_fit ring numbered fine id mine (Some from) (promise_of ring ballot lo (with_promise ballot part.kept)) (numbered, told_past (with_promise ballot part.kept) kept lo inst, told_page (with_promise ballot part.kept) kept lo)) next.near;
               next = next.next;
             })
 
@@ -148,52 +148,52 @@ module _ (ring : Ring) (numbered : IsRing ring.id) (id : NodeId) (mine : ring.ow
                 else if d then no_effects part
                 else decides_or_forwards ring link (with_bit mask position) (record { lo = lo; hi = hi; ballot = ballot; value = value })
                 (votes_anew ring (record { lo = lo; hi = hi; ballot = ballot; value = value }) (promises_anew ring ballot (no_effects part))))
-            go true c d = fits_sent part f _ (sends_fit ring numbered id mine (owner_of ring ballot) (body.Refuse ring.id ballot part.kept.promise) (numbered, is, p.kept.promise))
-            go false true d = fits_sent part f _ (sends_fit ring numbered id mine (owner_of ring ballot) (body.Trimmed ring.id part.kept.trim) numbered)
+            go true c d = fits_sent part f _ (sends_fit ring numbered fine id mine (owner_of ring ballot) (body.Refuse ring.id ballot part.kept.promise) (numbered, is, p.kept.promise))
+            go false true d = fits_sent part f _ (sends_fit ring numbered fine id mine (owner_of ring ballot) (body.Trimmed ring.id part.kept.trim) numbered)
             go false false true = fits_none part f
             go false false false =
                 let vote : Voted = record { lo = lo; hi = hi; ballot = ballot; value = value } in
                 let one = promises_anew ring ballot (no_effects part) in
-                ends_fit _ (next_decides_or_forwards ring numbered id mine (votes_anew ring vote one) link (with_bit mask position) vote some
-                (next_votes_anew ring numbered id mine one vote (next_promises_anew ring numbered id mine (no_effects part) ballot (begins_next part f))))
+                ends_fit _ (next_decides_or_forwards ring numbered fine id mine (votes_anew ring vote one) link (with_bit mask position) vote some
+                (next_votes_anew ring numbered fine id mine one vote (next_promises_anew ring numbered fine id mine (no_effects part) ballot (begins_next part f))))
 
     pub fits_fetches : (part : Part) → PartValid part → PartFits ring part → (from : NodeId) (lo : ℕ) → Fits (fetches ring part from lo)
     unfolding fetches
     fits_fetches part p f from lo = go (nat_lt lo part.kept.trim)
       where
-        page : (ranges : List Decided) → ranges_page (learned_ranges (entries_from lo part.learner.held)) ≡ ranges → AllFit id (tells_ranges ring from ranges)
+        page : (ranges : List Decided) → ranges_page (learned_ranges (entries_from lo part.learner.held)) ≡ ranges → AllFit fine id (tells_ranges ring from ranges)
         page [] e = tt
         page (range ∷ ranges) e =
-            sends_fit ring numbered id mine (Some from) (body.Chosen ring.id (range ∷ ranges)) (numbered, learned_page lo part.learner.held p.held p.ordered (range ∷ ranges) e (omega arith))
+            sends_fit ring numbered fine id mine (Some from) (body.Chosen ring.id (range ∷ ranges)) (numbered, learned_page lo part.learner.held p.held p.ordered (range ∷ ranges) e (omega arith))
 
         go : (b : Bool) → Fits (if b then tells_trim ring (Some from) part
             else with_frames (tells_ranges ring from (ranges_page (learned_ranges (entries_from lo part.learner.held)))) (no_effects part))
-        go true = fits_sent part f _ (sends_fit ring numbered id mine (Some from) (body.Trimmed ring.id part.kept.trim) numbered)
+        go true = fits_sent part f _ (sends_fit ring numbered fine id mine (Some from) (body.Trimmed ring.id part.kept.trim) numbered)
         go false = fits_sent part f _ (page (ranges_page (learned_ranges (entries_from lo part.learner.held))) refl)
 
     pub fits_trimmed : (link : Link) (part : Part) → PartValid part → PartFits ring part → (trim : ℕ) → IsInst trim → Fits (trimmed ring link part trim)
     unfolding trimmed
     fits_trimmed link part p f trim is =
         proposes_fit (trims_to ring trim (no_effects part)) link (valid_trims ring numbered (no_effects part) trim is (valid_none ring numbered part p))
-        (near_trims ring numbered id mine (no_effects part) trim (near_none ring numbered id mine part f.outstanding))
+        (near_trims ring numbered fine id mine (no_effects part) trim (near_none ring numbered fine id mine part f.outstanding))
 
     -- ---- the coordinator's rules
 
-    near_reported : (effects : Effects) (from : NodeId) (page : Page) → page.hi ≤ END → EffectsNear id effects → EffectsNear id (reported ring from page effects)
+    near_reported : (effects : Effects) (from : NodeId) (page : Page) → page.hi ≤ END → EffectsNear fine id effects → EffectsNear fine id (reported ring from page effects)
     near_reported effects from page top n = at effects.part.coordinator.role n.outstanding (position_of ring from)
       where
-        asks_of : (b : Bool) → (page.hi == END) ≡ b → AllFit id (if b then [] else sends ring (Some from) (body.Prepare ring.id page.ballot page.hi))
+        asks_of : (b : Bool) → (page.hi == END) ≡ b → AllFit fine id (if b then [] else sends ring (Some from) (body.Prepare ring.id page.ballot page.hi))
         asks_of true e = tt
-        asks_of false e = let lt : page.hi < END = grind (arith, nat_tests) in sends_fit ring numbered id mine (Some from) (body.Prepare ring.id page.ballot page.hi) (numbered, lt)
+        asks_of false e = let lt : page.hi < END = grind (arith, nat_tests) in sends_fit ring numbered fine id mine (Some from) (body.Prepare ring.id page.ballot page.hi) (numbered, lt)
 
         by_test : (campaign : Campaign) → AllByRecursion (IsOpen effects.part.kept.trim) campaign.outstanding → (k : ℕ) (b : Bool)
-            → EffectsNear id (if b then with_frames (asks_more ring from page) (with_part (with_campaign (with_page k (slice_index campaign.covered k) page campaign) effects.part) effects) else effects)
+            → EffectsNear fine id (if b then with_frames (asks_more ring from page) (with_part (with_campaign (with_page k (slice_index campaign.covered k) page campaign) effects.part) effects) else effects)
         by_test campaign o k false = n
         by_test campaign o k true =
-            near_frames ring numbered id mine (with_part (with_campaign (with_page k (slice_index campaign.covered k) page campaign) effects.part) effects) (asks_more ring from page) (asks_of (page.hi == END) refl)
+            near_frames ring numbered fine id mine (with_part (with_campaign (with_page k (slice_index campaign.covered k) page campaign) effects.part) effects) (asks_more ring from page) (asks_of (page.hi == END) refl)
             (record { outstanding = o; frames = n.frames })
 
-        at : (role : Role) → OpenFits effects.part.kept.trim role → (k : Option ℕ) → EffectsNear id (reported_at ring from page role k effects)
+        at : (role : Role) → OpenFits effects.part.kept.trim role → (k : Option ℕ) → EffectsNear fine id (reported_at ring from page role k effects)
         at Idle o k = n
         at (Active campaign) o None = n
         at (Active campaign) o (Some k) = by_test campaign o k (counts page campaign.ballot (slice_index campaign.covered k))
@@ -205,7 +205,7 @@ module _ (ring : Ring) (numbered : IsRing ring.id) (id : NodeId) (mine : ring.ow
         let page : Page = record { ballot = ballot; lo = lo; hi = hi; votes = votes } in
         proposes_fit (reported ring from page (trims_to ring trim (no_effects part))) link
         (valid_reported ring numbered (trims_to ring trim (no_effects part)) from page is top all (valid_trims ring numbered (no_effects part) trim inst (valid_none ring numbered part p)))
-        (near_reported (trims_to ring trim (no_effects part)) from page top (near_trims ring numbered id mine (no_effects part) trim (near_none ring numbered id mine part f.outstanding)))
+        (near_reported (trims_to ring trim (no_effects part)) from page top (near_trims ring numbered fine id mine (no_effects part) trim (near_none ring numbered fine id mine part f.outstanding)))
 
     pub fits_refused : (part : Part) → PartFits ring part → (ballot promise : ℕ) → Fits (refused ring part ballot promise)
     unfolding refused
@@ -229,10 +229,10 @@ module _ (ring : Ring) (numbered : IsRing ring.id) (id : NodeId) (mine : ring.ow
 
     -- ---- a start
 
-    near_campaigns : (effects : Effects) (ballot : ℕ) → EffectsValid effects → EffectsNear id effects → EffectsNear id (campaigns ring ballot effects)
+    near_campaigns : (effects : Effects) (ballot : ℕ) → EffectsValid effects → EffectsNear fine id effects → EffectsNear fine id (campaigns ring ballot effects)
     near_campaigns effects ballot d n =
-        near_frames ring numbered id mine (with_part (with_campaign (new_campaign ring ballot effects.part.kept) effects.part) effects) (sends_each ring (other_acceptors ring) (body.Prepare ring.id ballot effects.part.kept.trim))
-        (each_fit ring numbered id mine (other_acceptors ring) (body.Prepare ring.id ballot effects.part.kept.trim) (numbered, d.part.kept.trim)) (record { outstanding = tt; frames = n.frames })
+        near_frames ring numbered fine id mine (with_part (with_campaign (new_campaign ring ballot effects.part.kept) effects.part) effects) (sends_each ring (other_acceptors ring) (body.Prepare ring.id ballot effects.part.kept.trim))
+        (each_fit ring numbered fine id mine (other_acceptors ring) (body.Prepare ring.id ballot effects.part.kept.trim) (numbered, d.part.kept.trim)) (record { outstanding = tt; frames = n.frames })
 
     pub fits_leads : (link : Link) (part : Part) → PartValid part → PartFits ring part → Fits (leads ring link part)
     unfolding leads
@@ -245,7 +245,7 @@ module _ (ring : Ring) (numbered : IsRing ring.id) (id : NodeId) (mine : ring.ow
             let is : ballot < 2 ^ 48 = grind (arith, nat_tests) in
             let d = valid_promises ring numbered (no_effects part) ballot is (valid_none ring numbered part p) in
             proposes_fit (campaigns ring ballot (promises ring ballot (no_effects part))) link (valid_campaigns ring numbered (promises ring ballot (no_effects part)) ballot is d)
-            (near_campaigns (promises ring ballot (no_effects part)) ballot d (near_promises ring numbered id mine (no_effects part) ballot (near_none ring numbered id mine part f.outstanding)))
+            (near_campaigns (promises ring ballot (no_effects part)) ballot d (near_promises ring numbered fine id mine (no_effects part) ballot (near_none ring numbered fine id mine part f.outstanding)))
 
         at : (o : Option ℕ) → Fits (starts_at ring link part o)
         at None = fits_none part f
@@ -271,7 +271,7 @@ module _ (ring : Ring) (numbered : IsRing ring.id) (id : NodeId) (mine : ring.ow
     fits_submits link part p f hops client seq command is = by_role part.coordinator.role p.role f.outstanding
       where
         on : (hops : ℕ) → Fits (passes_on ring part hops (record { client = client; seq = seq; command = command }))
-        on zero = fits_sent part f _ (sends_fit ring numbered id mine (owner_of ring (greatest_seen part)) (body.Submit ring.id 1 client seq command) (numbered, omega arith))
+        on zero = fits_sent part f _ (sends_fit ring numbered fine id mine (owner_of ring (greatest_seen part)) (body.Submit ring.id 1 client seq command) (numbered, omega arith))
         on (suc hops) = fits_none part f
 
         by_test : (campaign : Campaign) → CampaignValid campaign → AllByRecursion (IsOpen part.kept.trim) campaign.outstanding → (b c d : Bool) → Fits (if b then with_line (InstanceLimit ring.own ring.id) (no_effects part)
@@ -279,7 +279,7 @@ module _ (ring : Ring) (numbered : IsRing ring.id) (id : NodeId) (mine : ring.ow
             else if d then no_effects part
             else proposes ring link (with_campaign (with_pending (record { client = client; seq = seq; command = command }) campaign) part))
         by_test campaign c o true x y = record { part = f; frames = tt }
-        by_test campaign c o false true y = proposes_fit (no_effects part) link (valid_none ring numbered part p) (near_none ring numbered id mine part f.outstanding)
+        by_test campaign c o false true y = proposes_fit (no_effects part) link (valid_none ring numbered part p) (near_none ring numbered fine id mine part f.outstanding)
         by_test campaign c o false false true = fits_none part f
         by_test campaign c o false false false =
             let now : Part = with_campaign (with_pending (record { client = client; seq = seq; command = command }) campaign) part in
@@ -297,7 +297,7 @@ module _ (ring : Ring) (numbered : IsRing ring.id) (id : NodeId) (mine : ring.ow
               round = p.round;
               held = p.held;
               ordered = p.ordered;
-            })) (near_none ring numbered id mine now o)
+            })) (near_none ring numbered fine id mine now o)
 
         by_role : (role : Role) → RoleValid role → OpenFits part.kept.trim role → Fits (submits_in ring link part hops (record { client = client; seq = seq; command = command }) role)
         by_role Idle r o = on hops
@@ -314,22 +314,22 @@ module _ (ring : Ring) (numbered : IsRing ring.id) (id : NodeId) (mine : ring.ow
     unfolding resends
     fits_resends link part f = by_role part.coordinator.role f.outstanding
       where
-        prepared : (ballot : ℕ) (nodes : List NodeId) (covered : List ℕ) → AllFit id (prepares_again ring ballot nodes covered)
+        prepared : (ballot : ℕ) (nodes : List NodeId) (covered : List ℕ) → AllFit fine id (prepares_again ring ballot nodes covered)
         prepared ballot [] covered = tt
         prepared ballot (node ∷ nodes) [] = tt
         prepared ballot (node ∷ nodes) (c ∷ later) =
             append_all _ (if nat_lt c END then sends ring (Some node) (body.Prepare ring.id ballot c) else []) (prepares_again ring ballot nodes later) (one (nat_lt c END) refl) (prepared ballot nodes later)
           where
-            one : (b : Bool) → nat_lt c END ≡ b → AllFit id (if b then sends ring (Some node) (body.Prepare ring.id ballot c) else [])
-            one true e = let lt : c < END = grind (arith, nat_tests) in sends_fit ring numbered id mine (Some node) (body.Prepare ring.id ballot c) (numbered, lt)
+            one : (b : Bool) → nat_lt c END ≡ b → AllFit fine id (if b then sends ring (Some node) (body.Prepare ring.id ballot c) else [])
+            one true e = let lt : c < END = grind (arith, nat_tests) in sends_fit ring numbered fine id mine (Some node) (body.Prepare ring.id ballot c) (numbered, lt)
             one false e = tt
 
-        accepted : (ballot : ℕ) (ranges : List Decided) → AllByRecursion (IsOpen part.kept.trim) ranges → AllFit id (accepts_again ring (next_acceptor ring link) ballot part.kept.trim ranges)
+        accepted : (ballot : ℕ) (ranges : List Decided) → AllByRecursion (IsOpen part.kept.trim) ranges → AllFit fine id (accepts_again ring (next_acceptor ring link) ballot part.kept.trim ranges)
         accepted ballot [] all = tt
         accepted ballot (range ∷ ranges) all =
             append_all _ (sends ring (next_acceptor ring link) (body.Accept ring.id ballot (max range.lo part.kept.trim) range.hi (own_mask ring) range.value))
             (accepts_again ring (next_acceptor ring link) ballot part.kept.trim ranges)
-            (sends_fit ring numbered id mine (next_acceptor ring link) (body.Accept ring.id ballot (max range.lo part.kept.trim) range.hi (own_mask ring) range.value) (numbered, all.0)) (accepted ballot ranges all.1)
+            (sends_fit ring numbered fine id mine (next_acceptor ring link) (body.Accept ring.id ballot (max range.lo part.kept.trim) range.hi (own_mask ring) range.value) (numbered, all.0)) (accepted ballot ranges all.1)
 
         by_role : (role : Role) → OpenFits part.kept.trim role → Fits (resends_in ring link part role)
         by_role Idle o = fits_none part f
@@ -354,7 +354,7 @@ module _ (ring : Ring) (numbered : IsRing ring.id) (id : NodeId) (mine : ring.ow
         by_room campaign c o n missing some true e =
             let test = (and_parts (has_room ring campaign) (nat_lt campaign.next END) e).1 in
             let under : campaign.next < END = grind (arith, nat_tests) in
-            let made = fits_offers ring numbered id mine (no_effects part) link campaign (shortfall_from campaign.next missing) 0 o n (omega arith) tt in
+            let made = fits_offers ring numbered fine id mine (no_effects part) link campaign (shortfall_from campaign.next missing) 0 o n (omega arith) tt in
             proposes_fit (offers ring link campaign (shortfall_from campaign.next missing) 0 (no_effects part)) link
             (valid_offers ring numbered (no_effects part) link campaign (shortfall_from campaign.next missing) 0
             (record { ballot = c.ballot; range = omega arith; end = omega arith; alone = λ is. absurd (cc); value = tt }) c (valid_none ring numbered part p)) made.near

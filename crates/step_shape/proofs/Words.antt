@@ -33,14 +33,14 @@ use Rattle.step_shape.specs.Shaped.{BodyFits, SentFits, IsOpen, OpenFits, NextFi
 
 -- ---- what is sent
 
-abbrev pub AllFit : NodeId → List Sent → Type 0
-AllFit id frames = AllByRecursion (SentFits id) frames
+abbrev pub AllFit : (ℕ → Type 0) → NodeId → List Sent → Type 0
+AllFit fine id frames = AllByRecursion (SentFits fine id) frames
 
 -- by a node, under whatever name the rule has for it
-pub to_fits : (id own to : NodeId) (b : Body) → own ≡ id → BodyFits b → AllFit id (sends_to own to b)
-to_fits id own to b mine is = go (to.0 == own.0 || is_beyond b)
+pub to_fits : (fine : ℕ → Type 0) (id own to : NodeId) (b : Body) → own ≡ id → BodyFits fine b → AllFit fine id (sends_to own to b)
+to_fits fine id own to b mine is = go (to.0 == own.0 || is_beyond b)
   where
-    go : (t : Bool) → AllFit id (if t then [] else (record { to = Node to; frame = record { from = Node own; body = b } }) ∷ [])
+    go : (t : Bool) → AllFit fine id (if t then [] else (record { to = Node to; frame = record { from = Node own; body = b } }) ∷ [])
     go true = tt
     go false = (record { from = ap (λ (n : NodeId). Node n) mine; to = tt; fits = is }, tt)
 
@@ -78,25 +78,25 @@ next_unfinished trim held Idle n = tt
 next_unfinished trim held (Active campaign) n = n
 
 -- what a rule has made that has proposed
-pub record EffectsNext (id : NodeId) (effects : Effects) : Type 0 where
-  pub near : EffectsNear id effects
+pub record EffectsNext (fine : ℕ → Type 0) (id : NodeId) (effects : Effects) : Type 0 where
+  pub near : EffectsNear fine id effects
   pub next : NextFits effects.part.kept.trim effects.part.coordinator.role
 
 -- ---- words
 
-module _ (ring : Ring) (numbered : IsRing ring.id) (id : NodeId) (mine : ring.own ≡ id) where
-  pub sends_fit : (to : Option NodeId) (b : Body) → BodyFits b → AllFit id (sends ring to b)
+module _ (ring : Ring) (numbered : IsRing ring.id) (fine : ℕ → Type 0) (id : NodeId) (mine : ring.own ≡ id) where
+  pub sends_fit : (to : Option NodeId) (b : Body) → BodyFits fine b → AllFit fine id (sends ring to b)
   sends_fit None b is = tt
-  sends_fit (Some to) b is = to_fits id ring.own to b mine is
+  sends_fit (Some to) b is = to_fits fine id ring.own to b mine is
 
-  pub each_fit : (nodes : List NodeId) (b : Body) → BodyFits b → AllFit id (sends_each ring nodes b)
+  pub each_fit : (nodes : List NodeId) (b : Body) → BodyFits fine b → AllFit fine id (sends_each ring nodes b)
   each_fit [] b is = tt
-  each_fit (node ∷ nodes) b is = append_all (SentFits id) (sends ring (Some node) b) (sends_each ring nodes b) (sends_fit (Some node) b is) (each_fit nodes b is)
+  each_fit (node ∷ nodes) b is = append_all (SentFits fine id) (sends ring (Some node) b) (sends_each ring nodes b) (sends_fit (Some node) b is) (each_fit nodes b is)
 
-  pub near_frames : (effects : Effects) (frames : List Sent) → AllFit id frames → EffectsNear id effects → EffectsNear id (with_frames frames effects)
-  near_frames effects frames is n = record { outstanding = n.outstanding; frames = append_all (SentFits id) effects.frames frames n.frames is }
+  pub near_frames : (effects : Effects) (frames : List Sent) → AllFit fine id frames → EffectsNear fine id effects → EffectsNear fine id (with_frames frames effects)
+  near_frames effects frames is n = record { outstanding = n.outstanding; frames = append_all (SentFits fine id) effects.frames frames n.frames is }
 
-  pub near_none : (part : Part) → OpenFits part.kept.trim part.coordinator.role → EffectsNear id (no_effects part)
+  pub near_none : (part : Part) → OpenFits part.kept.trim part.coordinator.role → EffectsNear fine id (no_effects part)
   near_none part o = record { outstanding = o; frames = tt }
 
   idle_open : (ballot trim : ℕ) (role : Role) → OpenFits trim role → OpenFits trim (idle_below ballot role)
@@ -107,41 +107,41 @@ module _ (ring : Ring) (numbered : IsRing ring.id) (id : NodeId) (mine : ring.ow
       go true = tt
       go false = o
 
-  pub near_promises : (effects : Effects) (ballot : ℕ) → EffectsNear id effects → EffectsNear id (promises ring ballot effects)
+  pub near_promises : (effects : Effects) (ballot : ℕ) → EffectsNear fine id effects → EffectsNear fine id (promises ring ballot effects)
   near_promises effects ballot n = record { outstanding = idle_open ballot effects.part.kept.trim effects.part.coordinator.role n.outstanding; frames = n.frames }
 
-  pub near_promises_anew : (effects : Effects) (ballot : ℕ) → EffectsNear id effects → EffectsNear id (promises_anew ring ballot effects)
+  pub near_promises_anew : (effects : Effects) (ballot : ℕ) → EffectsNear fine id effects → EffectsNear fine id (promises_anew ring ballot effects)
   near_promises_anew effects ballot n = go (ballot == effects.part.kept.promise)
     where
-      go : (b : Bool) → EffectsNear id (if b then effects else promises ring ballot effects)
+      go : (b : Bool) → EffectsNear fine id (if b then effects else promises ring ballot effects)
       go true = n
       go false = near_promises effects ballot n
 
-  near_votes : (effects : Effects) (vote : Voted) → EffectsNear id effects → EffectsNear id (votes_for ring vote effects)
+  near_votes : (effects : Effects) (vote : Voted) → EffectsNear fine id effects → EffectsNear fine id (votes_for ring vote effects)
   near_votes effects vote n = record { outstanding = n.outstanding; frames = n.frames }
 
-  pub near_votes_anew : (effects : Effects) (vote : Voted) → EffectsNear id effects → EffectsNear id (votes_anew ring vote effects)
+  pub near_votes_anew : (effects : Effects) (vote : Voted) → EffectsNear fine id effects → EffectsNear fine id (votes_anew ring vote effects)
   near_votes_anew effects vote n = go (are_held vote effects.part.kept.votes)
     where
-      go : (b : Bool) → EffectsNear id (if b then effects else votes_for ring vote effects)
+      go : (b : Bool) → EffectsNear fine id (if b then effects else votes_for ring vote effects)
       go true = n
       go false = near_votes effects vote n
 
-  pub near_trims : (effects : Effects) (trim : ℕ) → EffectsNear id effects → EffectsNear id (trims_to ring trim effects)
+  pub near_trims : (effects : Effects) (trim : ℕ) → EffectsNear fine id effects → EffectsNear fine id (trims_to ring trim effects)
   near_trims effects trim n = go (nat_le trim effects.part.kept.trim)
     where
-      go : (b : Bool) → EffectsNear id (if b then effects else with_change (change.Trim ring.id trim) (without_finished (with_kept (with_trim trim effects.part.kept) effects.part)) effects)
+      go : (b : Bool) → EffectsNear fine id (if b then effects else with_change (change.Trim ring.id trim) (without_finished (with_kept (with_trim trim effects.part.kept) effects.part)) effects)
       go true = n
       go false = record { outstanding = open_unfinished trim effects.part.learner.held effects.part.coordinator.role; frames = n.frames }
 
-  pub near_decides_or_forwards : (effects : Effects) (link : Link) (mask : ℕ) (vote : Voted) → vote.lo < vote.hi → EffectsNear id effects → EffectsNear id (decides_or_forwards ring link mask vote effects)
+  pub near_decides_or_forwards : (effects : Effects) (link : Link) (mask : ℕ) (vote : Voted) → vote.lo < vote.hi → EffectsNear fine id effects → EffectsNear fine id (decides_or_forwards ring link mask vote effects)
   near_decides_or_forwards effects link mask vote some n = go (nat_le (majority_of ring) (count_ones mask))
     where
-      first : (b : Bool) → AllFit id (if b then sends ring (next_member ring link) (body.Decide ring.id vote.lo vote.hi (length ring.members - 2) vote.value) else [])
+      first : (b : Bool) → AllFit fine id (if b then sends ring (next_member ring link) (body.Decide ring.id vote.lo vote.hi (length ring.members - 2) vote.value) else [])
       first true = sends_fit (next_member ring link) (body.Decide ring.id vote.lo vote.hi (length ring.members - 2) vote.value) (numbered, some)
       first false = tt
 
-      go : (b : Bool) → EffectsNear id (if b then decides ring link (decided_of vote) effects
+      go : (b : Bool) → EffectsNear fine id (if b then decides ring link (decided_of vote) effects
           else with_frames (sends ring (next_acceptor ring link) (body.Accept ring.id vote.ballot vote.lo vote.hi mask vote.value)) effects)
       go true =
           let sent = near_frames effects (first_decide ring link (decided_of vote)) (first (nat_le 2 (length ring.members))) n in
@@ -161,7 +161,7 @@ module _ (ring : Ring) (numbered : IsRing ring.id) (id : NodeId) (mine : ring.ow
       go false = refl
 
   pub fits_offers : (effects : Effects) (link : Link) (campaign : Campaign) (range : Decided) (taken : ℕ) → AllByRecursion (IsOpen effects.part.kept.trim) campaign.outstanding
-      → effects.part.kept.trim ≤ range.lo → range.lo < range.hi → AllFit id effects.frames → EffectsNext id (offers ring link campaign range taken effects)
+      → effects.part.kept.trim ≤ range.lo → range.lo < range.hi → AllFit fine id effects.frames → EffectsNext fine id (offers ring link campaign range taken effects)
   unfolding offers
   fits_offers effects link campaign range taken unended low some frames =
       let begun : Effects = with_part (with_campaign (after_offer ring range taken campaign) effects.part) effects in
@@ -179,14 +179,14 @@ module _ (ring : Ring) (numbered : IsRing ring.id) (id : NodeId) (mine : ring.ow
   pub record MayOffer (campaign : Campaign) (range : Decided) (effects : Effects) : Type 0 where
     pub outstanding : AllByRecursion (IsOpen effects.part.kept.trim) campaign.outstanding
     pub low : effects.part.kept.trim ≤ range.lo
-    pub frames : AllFit id effects.frames
+    pub frames : AllFit fine id effects.frames
     pub valid : MayPropose ring numbered campaign range effects
 
   abbrev TurnFits : (Effects → Type 0) → Turn → Type 0
-  TurnFits P (Stops effects) = EffectsNext id effects
+  TurnFits P (Stops effects) = EffectsNext fine id effects
   TurnFits P (Proposes campaign range taken effects) = MayOffer campaign range effects × P effects
 
-  fits_turn : (P : Effects → Type 0) (effects : Effects) → EffectsValid effects → EffectsNear id effects → P effects → TurnFits P (turn_of ring effects)
+  fits_turn : (P : Effects → Type 0) (effects : Effects) → EffectsValid effects → EffectsNear fine id effects → P effects → TurnFits P (turn_of ring effects)
   fits_turn P effects d n more = by_role effects.part.coordinator.role d.part.role n.outstanding refl
     where
       by_role : (role : Role) → RoleValid role → OpenFits effects.part.kept.trim role → effects.part.coordinator.role ≡ role → TurnFits P (turn_in ring effects role)
@@ -215,28 +215,28 @@ module _ (ring : Ring) (numbered : IsRing ring.id) (id : NodeId) (mine : ring.ow
               )
 
   -- a proposal is made
-  offered : (link : Link) (campaign : Campaign) (range : Decided) (taken : ℕ) (effects : Effects) → MayOffer campaign range effects → EffectsNext id (offers ring link campaign range taken effects)
+  offered : (link : Link) (campaign : Campaign) (range : Decided) (taken : ℕ) (effects : Effects) → MayOffer campaign range effects → EffectsNext fine id (offers ring link campaign range taken effects)
   offered link campaign range taken effects m = fits_offers effects link campaign range taken m.outstanding m.low m.valid.may.range m.frames
 
-  then_turns : (link : Link) (campaign : Campaign) (range : Decided) (taken : ℕ) (effects : Effects) → MayOffer campaign range effects → TurnFits (EffectsNext id) (turn_of ring (offers ring link campaign range taken effects))
+  then_turns : (link : Link) (campaign : Campaign) (range : Decided) (taken : ℕ) (effects : Effects) → MayOffer campaign range effects → TurnFits (EffectsNext fine id) (turn_of ring (offers ring link campaign range taken effects))
   then_turns link campaign range taken effects m =
       let made = offered link campaign range taken effects m in
-      fits_turn (EffectsNext id) (offers ring link campaign range taken effects) (valid_offers ring numbered effects link campaign range taken m.valid.may m.valid.campaign_valid m.valid.effects_valid) made.near made
+      fits_turn (EffectsNext fine id) (offers ring link campaign range taken effects) (valid_offers ring numbered effects link campaign range taken m.valid.may m.valid.campaign_valid m.valid.effects_valid) made.near made
 
-  goes_on : (count : ℕ) (link : Link) (turn : Turn) → TurnFits (EffectsNext id) turn → EffectsNext id (proposing count ring link turn)
+  goes_on : (count : ℕ) (link : Link) (turn : Turn) → TurnFits (EffectsNext fine id) turn → EffectsNext fine id (proposing count ring link turn)
   unfolding proposing
   goes_on zero link (Stops effects) t = t
   goes_on zero link (Proposes campaign range taken effects) t = t.1
   goes_on (suc count) link (Stops effects) t = t
   goes_on (suc count) link (Proposes campaign range taken effects) t = goes_on count link (turn_of ring (offers ring link campaign range taken effects)) (then_turns link campaign range taken effects t.0)
 
-  begins : (count : ℕ) (link : Link) (turn : Turn) → 0 < count → TurnFits (λ e. Unit {0}) turn → EffectsNext id (proposing count ring link turn)
+  begins : (count : ℕ) (link : Link) (turn : Turn) → 0 < count → TurnFits (λ e. Unit {0}) turn → EffectsNext fine id (proposing count ring link turn)
   unfolding proposing
   begins zero link turn some t = absurd (omega arith)
   begins (suc count) link (Stops effects) some t = t
   begins (suc count) link (Proposes campaign range taken effects) some t = goes_on count link (turn_of ring (offers ring link campaign range taken effects)) (then_turns link campaign range taken effects t.0)
 
-  pub fits_proposes : (effects : Effects) (link : Link) → EffectsValid effects → EffectsNear id effects → EffectsNext id (proposes_after ring link effects)
+  pub fits_proposes : (effects : Effects) (link : Link) → EffectsValid effects → EffectsNear fine id effects → EffectsNext fine id (proposes_after ring link effects)
   unfolding proposes_after
   fits_proposes effects link d n = begins END link (turn_of ring effects) (omega arith) (fits_turn (λ e. Unit {0}) effects d n tt)
 
@@ -250,24 +250,24 @@ module _ (ring : Ring) (numbered : IsRing ring.id) (id : NodeId) (mine : ring.ow
       go true = tt
       go false = n
 
-  pub next_promises : (effects : Effects) (ballot : ℕ) → EffectsNext id effects → EffectsNext id (promises ring ballot effects)
+  pub next_promises : (effects : Effects) (ballot : ℕ) → EffectsNext fine id effects → EffectsNext fine id (promises ring ballot effects)
   next_promises effects ballot n = record { near = near_promises effects ballot n.near; next = next_idle ballot effects.part.kept.trim effects.part.coordinator.role n.next }
 
-  pub next_promises_anew : (effects : Effects) (ballot : ℕ) → EffectsNext id effects → EffectsNext id (promises_anew ring ballot effects)
+  pub next_promises_anew : (effects : Effects) (ballot : ℕ) → EffectsNext fine id effects → EffectsNext fine id (promises_anew ring ballot effects)
   next_promises_anew effects ballot n = go (ballot == effects.part.kept.promise)
     where
-      go : (b : Bool) → EffectsNext id (if b then effects else promises ring ballot effects)
+      go : (b : Bool) → EffectsNext fine id (if b then effects else promises ring ballot effects)
       go true = n
       go false = next_promises effects ballot n
 
-  pub next_votes_anew : (effects : Effects) (vote : Voted) → EffectsNext id effects → EffectsNext id (votes_anew ring vote effects)
+  pub next_votes_anew : (effects : Effects) (vote : Voted) → EffectsNext fine id effects → EffectsNext fine id (votes_anew ring vote effects)
   next_votes_anew effects vote n = go (are_held vote effects.part.kept.votes)
     where
-      go : (b : Bool) → EffectsNext id (if b then effects else votes_for ring vote effects)
+      go : (b : Bool) → EffectsNext fine id (if b then effects else votes_for ring vote effects)
       go true = n
       go false = record { near = near_votes effects vote n.near; next = n.next }
 
-  pub next_decides_or_forwards : (effects : Effects) (link : Link) (mask : ℕ) (vote : Voted) → vote.lo < vote.hi → EffectsNext id effects → EffectsNext id (decides_or_forwards ring link mask vote effects)
+  pub next_decides_or_forwards : (effects : Effects) (link : Link) (mask : ℕ) (vote : Voted) → vote.lo < vote.hi → EffectsNext fine id effects → EffectsNext fine id (decides_or_forwards ring link mask vote effects)
   next_decides_or_forwards effects link mask vote some n = record {
     near = near_decides_or_forwards effects link mask vote some n.near;
     next = subst (λ (p : Part). NextFits p.kept.trim p.coordinator.role) (sym (same_part effects link mask vote)) n.next;

@@ -38,29 +38,29 @@ pub record IsRangesPage (ranges : List Decided) : Type 0 where
   pub room : sum_by decided_size ranges ≤ page_room
   pub some : 1 ≤ length ranges
 
--- What a frame of a node needs to have a spelling, beside what `BodyValid` says and that its tuples are tuples. Nothing is said of the
--- number of a round and of an epoch, which have no limit in a world without bytes.
-abbrev pub BodyFits : Body → Type 0
-BodyFits (body.Submit r hops client seq command) = IsRing r × (hops ≤ 1)
-BodyFits (body.Prepare r ballot lo) = IsRing r × IsInst lo
-BodyFits (body.Promise r ballot lo hi trim votes) = IsRing r × (lo < hi) × IsVotesPage votes
-BodyFits (body.Refuse r ballot promise) = IsRing r × IsBallot ballot × IsBallot promise
-BodyFits (body.Accept r ballot lo hi mask value) = IsRing r × (lo < hi)
-BodyFits (body.Decide r lo hi left value) = IsRing r × (lo < hi)
-BodyFits (body.Fetch r lo) = IsRing r × IsInst lo
-BodyFits (body.Chosen r ranges) = IsRing r × IsRangesPage ranges
-BodyFits (body.Trimmed r trim) = IsRing r
-BodyFits (body.AskSafe r round) = IsRing r
-BodyFits (body.Safe r round inst) = IsRing r
-BodyFits (body.TrimTo r trim) = IsRing r
-BodyFits (body.AskCheckpoint epoch attempt) = attempt < 2 ^ 32
-BodyFits (body.HaveCheckpoint epoch attempt tuple) = attempt < 2 ^ 32
-BodyFits (body.AskPart epoch attempt tuple offset) = (attempt < 2 ^ 32) × (offset < 2 ^ 64)
-BodyFits (body.Part epoch attempt tuple offset total bytes) =
-    (attempt < 2 ^ 32) × (offset < 2 ^ 64) × (total < 2 ^ 64) × (1 ≤ length bytes) × (length bytes ≡ min 16384 (total - offset))
-BodyFits (body.Gone epoch attempt asked newer) = attempt < 2 ^ 32
-BodyFits (body.Reply client seq partition reply) = (length reply ≤ 16384) × (seq < 2 ^ 64)
-BodyFits body.Hello = Unit {0}
+-- What a frame of a node needs to have a spelling, beside what `BodyValid` says and that its tuples are tuples. An epoch has no limit in
+-- a world without bytes: it is said of it what is said of the epochs of nodes. Nothing is said of the number of a round.
+abbrev pub BodyFits : (ℕ → Type 0) → Body → Type 0
+BodyFits fine (body.Submit r hops client seq command) = IsRing r × (hops ≤ 1)
+BodyFits fine (body.Prepare r ballot lo) = IsRing r × IsInst lo
+BodyFits fine (body.Promise r ballot lo hi trim votes) = IsRing r × (lo < hi) × IsVotesPage votes
+BodyFits fine (body.Refuse r ballot promise) = IsRing r × IsBallot ballot × IsBallot promise
+BodyFits fine (body.Accept r ballot lo hi mask value) = IsRing r × (lo < hi)
+BodyFits fine (body.Decide r lo hi left value) = IsRing r × (lo < hi)
+BodyFits fine (body.Fetch r lo) = IsRing r × IsInst lo
+BodyFits fine (body.Chosen r ranges) = IsRing r × IsRangesPage ranges
+BodyFits fine (body.Trimmed r trim) = IsRing r
+BodyFits fine (body.AskSafe r round) = IsRing r
+BodyFits fine (body.Safe r round inst) = IsRing r
+BodyFits fine (body.TrimTo r trim) = IsRing r
+BodyFits fine (body.AskCheckpoint epoch attempt) = (attempt < 2 ^ 32) × fine epoch
+BodyFits fine (body.HaveCheckpoint epoch attempt tuple) = (attempt < 2 ^ 32) × fine epoch
+BodyFits fine (body.AskPart epoch attempt tuple offset) = (attempt < 2 ^ 32) × (offset < 2 ^ 64) × fine epoch
+BodyFits fine (body.Part epoch attempt tuple offset total bytes) =
+    (attempt < 2 ^ 32) × (offset < 2 ^ 64) × (total < 2 ^ 64) × (1 ≤ length bytes) × (length bytes ≡ min 16384 (total - offset)) × fine epoch
+BodyFits fine (body.Gone epoch attempt asked newer) = (attempt < 2 ^ 32) × fine epoch
+BodyFits fine (body.Reply client seq partition reply) = (length reply ≤ 16384) × (seq < 2 ^ 64)
+BodyFits fine body.Hello = Unit {0}
 
 -- replies alone go to clients
 abbrev pub MayGo : Party → Body → Type 0
@@ -69,15 +69,15 @@ MayGo (Client to) (body.Reply client seq partition reply) = Unit {0}
 MayGo (Client to) other = ⊥
 
 -- a frame of this node
-pub record SentFits (id : NodeId) (sent : Sent) : Type 0 where
+pub record SentFits (fine : ℕ → Type 0) (id : NodeId) (sent : Sent) : Type 0 where
   pub from : sent.frame.from ≡ Node id
   pub to : MayGo sent.to sent.frame.body
-  pub fits : BodyFits sent.frame.body
+  pub fits : BodyFits fine sent.frame.body
 
 -- what comes from a node fits; what comes from a client is a command, of which `BodyValid` says enough
-abbrev pub FrameFits : Party → Body → Type 0
-FrameFits (Node from) body = BodyFits body
-FrameFits (Client from) body = Unit {0}
+abbrev pub FrameFits : (ℕ → Type 0) → Party → Body → Type 0
+FrameFits fine (Node from) body = BodyFits fine body
+FrameFits fine (Client from) body = Unit {0}
 
 -- ---- what a node keeps of a ring
 
@@ -106,14 +106,14 @@ pub record PartFits (ring : Ring) (part : Part) : Type 0 where
   pub outside : is_acceptor ring ≡ false → IsOutside part
 
 -- what a rule of a ring makes on its way, before it proposes
-pub record EffectsNear (id : NodeId) (effects : Effects) : Type 0 where
+pub record EffectsNear (fine : ℕ → Type 0) (id : NodeId) (effects : Effects) : Type 0 where
   pub outstanding : OpenFits effects.part.kept.trim effects.part.coordinator.role
-  pub frames : AllByRecursion (SentFits id) effects.frames
+  pub frames : AllByRecursion (SentFits fine id) effects.frames
 
 -- what a rule of a ring makes
-pub record EffectsFit (ring : Ring) (id : NodeId) (effects : Effects) : Type 0 where
+pub record EffectsFit (ring : Ring) (fine : ℕ → Type 0) (id : NodeId) (effects : Effects) : Type 0 where
   pub part : PartFits ring effects.part
-  pub frames : AllByRecursion (SentFits id) effects.frames
+  pub frames : AllByRecursion (SentFits fine id) effects.frames
 
 -- ---- a replica
 
@@ -149,19 +149,20 @@ pub record ViewFits (view : View) : Type 0 where
   pub replica : ReplicaFits view.service
   pub newest : NewestFits view.checkpoints.newest
 
-abbrev pub EventFits : Event → Type 0
-EventFits (Takes frame) = FrameFits frame.from frame.body
-EventFits other = Unit {0}
+abbrev pub EventFits : (ℕ → Type 0) → Event → Type 0
+EventFits fine (Takes frame) = FrameFits fine frame.from frame.body
+EventFits fine other = Unit {0}
 
 -- a step on its way
-pub record SoFarFits (id : NodeId) (a : StepSoFar) : Type 0 where
+pub record SoFarFits (fine : ℕ → Type 0) (id : NodeId) (a : StepSoFar) : Type 0 where
   pub view : ViewFits a.view
-  pub frames : AllByRecursion (SentFits id) a.frames
-  pub replies : AllByRecursion (SentFits id) a.replies
+  pub frames : AllByRecursion (SentFits fine id) a.frames
+  pub replies : AllByRecursion (SentFits fine id) a.replies
+  pub epoch : fine a.view.journal.state.epoch
 
-pub record StepFits (id : NodeId) (effects : Stepped) : Type 0 where
+pub record StepFits (fine : ℕ → Type 0) (id : NodeId) (effects : Stepped) : Type 0 where
   pub view : ViewFits effects.view
-  pub frames : AllByRecursion (SentFits id) effects.frames
+  pub frames : AllByRecursion (SentFits fine id) effects.frames
 
 -- what a disk keeps of a ring of which its node is a member and no acceptor: nothing
 abbrev pub KeepsNothing : Config → NodeId → State → Type 0

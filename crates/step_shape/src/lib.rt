@@ -6,7 +6,7 @@
 //! Definitions and laws alone: each function has an empty body, and its contract is the law. `specs/Shaped` says what is kept.
 #![tactic(auto)]
 
-ghost use Rattle.std.specs.Prelude.{Option, ℕ};
+ghost use Rattle.std.specs.Prelude.{◌≤◌, Option, ℕ};
 ghost use Rattle.mrp_types.specs.declared.id.NodeId.{NodeId};
 ghost use Rattle.command_codec.specs.declared.command.Command.{Command};
 ghost use Rattle.mrp_config.specs.Config.{Config};
@@ -22,14 +22,15 @@ ghost use Rattle.ask_laws.specs.Carried.{EventCarries, NewestKeeps, StateCarries
 ghost use Rattle.step_shape.specs.Shaped.{EventFits, KeepsNothing, NewestFits, StepFits, ViewFits};
 
 /// Whatever happens to a node of a valid deployment whose view is valid, carries asked entries and fits: its view fits again, and so
-/// does each frame that it sends, which comes of that node.
+/// does each frame that it sends, which comes of that node. Where the node's epoch and that of what comes are at most a limit, so is
+/// that of each frame that it sends.
 pub fn a_step_fits()
     ensures { (config : Config) → IsValid config → (asked : ℕ → ℕ → Option Command) → (view : View) → ViewValid config view → ViewCarries (IsAsked config asked) (IsValid config) view → ViewFits view
-        → (event : Event) → EventValid event → EventCarries (IsAsked config asked) (IsValid config) event → EventFits event → StepFits view.id (step config view event) }
+        → (limit : ℕ) → view.journal.state.epoch ≤ limit → (event : Event) → EventValid event → EventCarries (IsAsked config asked) (IsValid config) event → EventFits (λ epoch. epoch ≤ limit) event → StepFits (λ epoch. epoch ≤ limit) view.id (step config view event) }
 {}
 
 /// So does that of a node which opens on a state that keeps nothing of rings of which it is no acceptor.
 pub fn an_opening_fits()
     ensures { (config : Config) → IsValid config → (asked : ℕ → ℕ → Option Command) → (id : NodeId) (journal : Journal) (checkpoints : Checkpoints) → StateCarries (IsAsked config asked) journal.state
-        → NewestKeeps checkpoints.newest → NewestFits checkpoints.newest → KeepsNothing config id journal.state → StepFits id (opened config id journal checkpoints) }
+        → NewestKeeps checkpoints.newest → NewestFits checkpoints.newest → KeepsNothing config id journal.state → (limit : ℕ) → journal.state.epoch ≤ limit → StepFits (λ epoch. epoch ≤ limit) id (opened config id journal checkpoints) }
 {}

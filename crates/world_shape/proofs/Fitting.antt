@@ -23,7 +23,8 @@ use Rattle.command_codec.specs.declared.fault.CodecFault.{CodecFault}
 use Rattle.command_codec.specs.Grammar.{reply_of}
 use Rattle.vote_state.specs.declared.ring.RingState.{RingState}
 use Rattle.vote_state.specs.State.{State, no_votes, nothing_kept}
-use Rattle.vote_journal.specs.Journal.{Journal}
+use Rattle.vote_journal.specs.Journal.{Journal, recorded}
+use Rattle.vote_state.specs.declared.change.Change.{Change}
 use Rattle.checkpoint.specs.Checkpoints.{Checkpoint, Checkpoints}
 use Rattle.frames.specs.declared.body.Body.{Body}
 use Rattle.frames.specs.declared.body.Body.TheVariants as body
@@ -93,16 +94,16 @@ HostFits config id (Up view) = UpFits config id view
 HostFits config id (Down durable pending) = DownFits config id durable pending
 
 -- a frame of a node is one of a node of the deployment
-abbrev pub PartyFits : Config → Party → Party → Body → Type 0
-PartyFits config (Node id) to b = IsNode config id × BodyFits b × MayGo to b
-PartyFits config (Client id) to b = Unit {0}
+abbrev pub PartyFits : (ℕ → Type 0) → Config → Party → Party → Body → Type 0
+PartyFits fine config (Node id) to b = IsNode config id × BodyFits fine b × MayGo to b
+PartyFits fine config (Client id) to b = Unit {0}
 
-abbrev pub FromFits : Config → Sent → Type 0
-FromFits config sent = PartyFits config sent.frame.from sent.to sent.frame.body
+abbrev pub FromFits : (ℕ → Type 0) → Config → Sent → Type 0
+FromFits fine config sent = PartyFits fine config sent.frame.from sent.to sent.frame.body
 
-pub record WorldFits (config : Config) (w : World) : Type 0 where
+pub record WorldFits (fine : ℕ → Type 0) (config : Config) (w : World) : Type 0 where
   pub hosts : (n : ℕ) → HostFits config (node n) (w.hosts n)
-  pub frames : AllByRecursion (FromFits config) w.frames
+  pub frames : AllByRecursion (FromFits fine config) w.frames
 
 -- ---- rings
 
@@ -255,15 +256,15 @@ module _ (config : Config) where
       go false = tt
   takes_of c other = tt
 
-  client_fits : (sent : Sent) → IsOfClient sent → FromFits config sent
-  client_fits sent is = subst (λ (p : Party). PartyFits config p sent.to sent.frame.body) (sym is.1) tt
+  client_fits : (fine : ℕ → Type 0) (sent : Sent) → IsOfClient sent → FromFits fine config sent
+  client_fits fine sent is = subst (λ (p : Party). PartyFits fine config p sent.to sent.frame.body) (sym is.1) tt
 
-  own_fits : (id : NodeId) → IsNode config id → (sent : Sent) → SentFits id sent → FromFits config sent
-  own_fits id there sent is = subst (λ (p : Party). PartyFits config p sent.to sent.frame.body) (sym is.from) (there, is.fits, is.to)
+  own_fits : (fine : ℕ → Type 0) (id : NodeId) → IsNode config id → (sent : Sent) → SentFits fine id sent → FromFits fine config sent
+  own_fits fine id there sent is = subst (λ (p : Party). PartyFits fine config p sent.to sent.frame.body) (sym is.from) (there, is.fits, is.to)
 
 -- ---- a world that a run has reached
 
-module _ (config : Config) (valid : IsValid config) (before : List Happening) (ran : MayRun config nothing before) where
+module _ (fine : ℕ → Type 0) (config : Config) (valid : IsValid config) (before : List Happening) (ran : MayRun config nothing before) where
   abbrev b : World
   b = run config before nothing
 
@@ -315,28 +316,60 @@ module _ (config : Config) (valid : IsValid config) (before : List Happening) (r
       let out = f.outside (ap is_acceptor stands.of_ring ∙ outside) in
       sym stands.kept ∙ out.kept
 
-  event_fits : (id : NodeId) (event : Event) → WorldFits config b → MayCome b id event → EventFits event
+  event_fits : (id : NodeId) (event : Event) → WorldFits fine config b → MayCome b id event → EventFits fine event
   event_fits id Ticks w may = tt
   event_fits id (Leads ring) w may = tt
   event_fits id (Takes frame) w may =
-      let s : FromFits config may.sent = all_has (FromFits config) b.frames may.sent w.frames may.there in
-      subst (λ (f : Frame). FrameFits f.from f.body) may.same (by may.sent.frame.from s)
+      let s : FromFits fine config may.sent = all_has (FromFits fine config) b.frames may.sent w.frames may.there in
+      subst (λ (f : Frame). FrameFits fine f.from f.body) may.same (by may.sent.frame.from s)
     where
-      by : (from : Party) → PartyFits config from may.sent.to may.sent.frame.body → FrameFits from may.sent.frame.body
+      by : (from : Party) → PartyFits fine config from may.sent.to may.sent.frame.body → FrameFits fine from may.sent.frame.body
       by (Node x) h = h.1
       by (Client x) h = tt
 
-  made : (id : NodeId) (view : View) (event : Event) → WorldFits config b → b.hosts id.0 ≡ Up view → UpFits config id view → MayCome b id event → StepFits view.id (step config view event)
-  made id view event w here u may =
-      step_fits config (are_numbered config valid) (tables_differ config valid) (IsAsked config (asked_in config before)) (IsValid config) valid (λ r e is. is.entry) (λ deployed r e is. entry_of_bytes config (asked_in config before) deployed r e is)
-      view (view_valid id view here) (view_carries id view here) u.whole event (event_valid config (are_numbered config valid) b id event may (runs_valid config valid before ran))
+  made : (id : NodeId) (view : View) (event : Event) → fine view.journal.state.epoch → WorldFits fine config b → b.hosts id.0 ≡ Up view → UpFits config id view → MayCome b id event → StepFits fine view.id (step config view event)
+  made id view event low w here u may =
+      step_fits config (are_numbered config valid) (tables_differ config valid) (IsAsked config (asked_in config before)) (IsValid config) valid (λ r e is. is.entry) (λ deployed r e is. entry_of_bytes config (asked_in config before) deployed r e is) fine
+      view (view_valid id view here) (view_carries id view here) u.whole low event (event_valid config (are_numbered config valid) b id event may (runs_valid config valid before ran))
       (came_carries (IsAsked config (asked_in config before)) (IsValid config) b id event may (all_keep config before ran).carried) (event_fits id event w may)
 
-  pub stepped_fits : (id : NodeId) (view : View) (event : Event) → WorldFits config b → b.hosts id.0 ≡ Up view → UpFits config id view → MayCome b id event → UpFits config id (step config view event).view
-  stepped_fits id view event w here u may = record { there = u.there; rings = rings_stay id view event here may ∙ u.rings; whole = (made id view event w here u may).view }
+  pub stepped_fits : (id : NodeId) (view : View) (event : Event) → fine view.journal.state.epoch → WorldFits fine config b → b.hosts id.0 ≡ Up view → UpFits config id view → MayCome b id event → UpFits config id (step config view event).view
+  stepped_fits id view event low w here u may = record { there = u.there; rings = rings_stay id view event here may ∙ u.rings; whole = (made id view event low w here u may).view }
 
-  sent_fit : (id : NodeId) (view : View) (frames : List Sent) → b.hosts id.0 ≡ Up view → IsNode config id → AllByRecursion (SentFits view.id) frames → AllByRecursion (FromFits config) frames
-  sent_fit id view frames here there all = mapped (SentFits view.id) (FromFits config) (λ sent is. own_fits config id there sent (subst (λ (n : NodeId). SentFits n sent) (up_lines id view here).id is)) frames all
+  sent_fit : (id : NodeId) (view : View) (frames : List Sent) → b.hosts id.0 ≡ Up view → IsNode config id → AllByRecursion (SentFits fine view.id) frames → AllByRecursion (FromFits fine config) frames
+  sent_fit id view frames here there all = mapped (SentFits fine view.id) (FromFits fine config) (λ sent is. own_fits config fine id there sent (subst (λ (n : NodeId). SentFits fine n sent) (up_lines id view here).id is)) frames all
+
+-- where the world is that a happening leaves of one host
+itself : (n : ℕ) (x y : Host) → (if n == n then x else y) ≡ x
+itself n x y = go (n == n) refl
+  where
+    go : (t : Bool) → (n == n) ≡ t → (if t then x else y) ≡ x
+    go true e = refl
+    go false e = absurd (let yes : (n == n) ≡ true = grind (arith, nat_tests) in true≢false (sym yes ∙ e))
+
+-- the epoch of each node that is up is fine
+abbrev pub UpsFine : (ℕ → Type 0) → World → Type 0
+UpsFine fine w = (id : NodeId) (view : View) → w.hosts id.0 ≡ Up view → fine view.journal.state.epoch
+
+pub opened_journal : (config : Config) (id : NodeId) (journal : Journal) (checkpoints : Checkpoints) → (opened config id journal checkpoints).view.journal ≡ journal
+unfolding opened
+opened_journal config id journal checkpoints = go (partition_of config.partitions id)
+  where
+    recorded_none : (j : Journal) (cs : List Change) → cs ≡ [] → recorded j cs ≡ j
+    recorded_none j [] e = refl
+    recorded_none j (c ∷ cs) e = absurd (cc)
+
+    first : StepSoFar
+    first = begun_with (view_of config id journal checkpoints)
+
+    go : (o : Option PartitionTable) → recorded (begins_first config o (begun_with (view_of config id journal checkpoints))).view.journal (begins_first config o (begun_with (view_of config id journal checkpoints))).changes ≡ journal
+    go None = refl
+    go (Some partition) =
+        let u = untouched_begins config (record { partition = partition; attempts = 0; stage = Recovering (record { number = 0; ticks = 0; answers = []; choice = None }) }) first in
+        recorded_none _ _ u.changes ∙ u.journal
+
+opened_fine : (fine : ℕ → Type 0) (config : Config) (id : NodeId) (journal : Journal) (checkpoints : Checkpoints) → fine (opened config id journal checkpoints).view.journal.state.epoch → fine journal.state.epoch
+opened_fine fine config id journal checkpoints low = subst (λ (j : Journal). fine j.state.epoch) (opened_journal config id journal checkpoints) low
 
 put_host : (config : Config) (id : NodeId) (host : Host) (w : World) → HostFits config id host → ((n : ℕ) → HostFits config (node n) (w.hosts n)) → (n : ℕ) → HostFits config (node n) (if n == id.0 then host else w.hosts n)
 put_host config id host w h all n = go (n == id.0) refl
@@ -345,52 +378,45 @@ put_host config id host w h all n = go (n == id.0) refl
     go true e = subst (λ (k : ℕ). HostFits config (node k) host) (sym (same_number n id.0 e)) h
     go false e = all n
 
-module _ (config : Config) (valid : IsValid config) (before : List Happening) (ran : MayRun config nothing before) (fit : WorldFits config (run config before nothing)) where
+module _ (fine : ℕ → Type 0) (config : Config) (valid : IsValid config) (before : List Happening) (ran : MayRun config nothing before) (ups : UpsFine fine (run config before nothing)) (fit : WorldFits fine config (run config before nothing)) where
   abbrev now : World
   now = run config before nothing
 
-  steps_fit : (id : NodeId) (event : Event) (host : Host) → now.hosts id.0 ≡ host → MayCome now id event → WorldFits config (steps_as config id event host now)
+  steps_fit : (id : NodeId) (event : Event) (host : Host) → now.hosts id.0 ≡ host → MayCome now id event → WorldFits fine config (steps_as config id event host now)
   steps_fit id event (Down durable pending) here may = fit
   steps_fit id event (Up view) here may =
       let u : UpFits config id view = subst (λ (h : Host). HostFits config id h) here (fit.hosts id.0) in
       record {
-        hosts = put_host config id (Up (step config view event).view) now (stepped_fits config valid before ran id view event fit here u may) fit.hosts;
-        frames = appended (FromFits config) now.frames (step config view event).frames fit.frames (sent_fit config valid before ran id view (step config view event).frames here u.there (made config valid before ran id view event fit here u may).frames);
+        hosts = put_host config id (Up (step config view event).view) now (stepped_fits fine config valid before ran id view event (ups id view here) fit here u may) fit.hosts;
+        frames = appended (FromFits fine config) now.frames (step config view event).frames fit.frames (sent_fit fine config valid before ran id view (step config view event).frames here u.there (made fine config valid before ran id view event (ups id view here) fit here u may).frames);
       }
 
-  falls : (id : NodeId) (cause : Cause) (durable pending : Possible) → DownFits config id durable pending → WorldFits config (goes_down id cause durable pending now)
+  falls : (id : NodeId) (cause : Cause) (durable pending : Possible) → DownFits config id durable pending → WorldFits fine config (goes_down id cause durable pending now)
   falls id cause durable pending d = record { hosts = put_host config id (Down durable pending) now d fit.hosts; frames = fit.frames }
 
   -- the disk of a node that is up
   stands : (id : NodeId) (view : View) → now.hosts id.0 ≡ Up view → UpFits config id view → PossibleFits config id (possible_of view)
-  stands id view here u = record { newest = u.whole.newest; none = keeps_nothing config valid before ran id view here u.rings u.whole }
+  stands id view here u = record { newest = u.whole.newest; none = keeps_nothing fine config valid before ran id view here u.rings u.whole }
 
   -- and the one that a step would leave
   would_stand : (id : NodeId) (view : View) (event : Event) → now.hosts id.0 ≡ Up view → UpFits config id view → MayCome now id event → PossibleFits config id (possible_of (step config view event).view)
   would_stand id view event here u may =
       let more : List Happening = before ++ Steps id event ∷ [] in
       let went : MayRun config nothing more = may_both config nothing before (Steps id event ∷ []) ran (may, tt) in
-      let next = stepped_fits config valid before ran id view event fit here u may in
-      record { newest = next.whole.newest; none = keeps_nothing config valid more went id (step config view event).view (at more) next.rings next.whole }
+      let next = stepped_fits fine config valid before ran id view event (ups id view here) fit here u may in
+      record { newest = next.whole.newest; none = keeps_nothing fine config valid more went id (step config view event).view (at more) next.rings next.whole }
     where
-      itself : (n : ℕ) (x y : Host) → (if n == n then x else y) ≡ x
-      itself n x y = go (n == n) refl
-        where
-          go : (t : Bool) → (n == n) ≡ t → (if t then x else y) ≡ x
-          go true e = refl
-          go false e = absurd (let yes : (n == n) ≡ true = grind (arith, nat_tests) in true≢false (sym yes ∙ e))
-
       at : (more : List Happening) → (run config (before ++ Steps id event ∷ []) nothing).hosts id.0 ≡ Up (step config view event).view
       at more = ap (λ (w : World). w.hosts id.0) (run_both config nothing before (Steps id event ∷ [])) ∙ ap (λ (h : Host). (steps_as config id event h now).hosts id.0) here ∙ itself id.0 (Up (step config view event).view) (now.hosts id.0)
 
-  breaks_fit : (id : NodeId) (event : Event) (cause : Cause) (host : Host) → now.hosts id.0 ≡ host → MayCome now id event → WorldFits config (breaks_as config id event cause host now)
+  breaks_fit : (id : NodeId) (event : Event) (cause : Cause) (host : Host) → now.hosts id.0 ≡ host → MayCome now id event → WorldFits fine config (breaks_as config id event cause host now)
   breaks_fit id event cause (Down durable pending) here may = fit
   breaks_fit id event cause (Up view) here may =
       let u : UpFits config id view = subst (λ (h : Host). HostFits config id h) here (fit.hosts id.0) in
       falls id cause (possible_of view) (possible_of (step config view event).view)
       (record { durable_fits = stands id view here u; pending_fits = would_stand id view event here u may; absent = λ none. absurd (none u.there) })
 
-  crashes_fit : (id : NodeId) (cause : Cause) (host : Host) → now.hosts id.0 ≡ host → WorldFits config (crashes_as id cause host now)
+  crashes_fit : (id : NodeId) (cause : Cause) (host : Host) → now.hosts id.0 ≡ host → WorldFits fine config (crashes_as id cause host now)
   crashes_fit id cause (Down durable pending) here = fit
   crashes_fit id cause (Up view) here =
       let u : UpFits config id view = subst (λ (h : Host). HostFits config id h) here (fit.hosts id.0) in
@@ -405,21 +431,22 @@ module _ (config : Config) (valid : IsValid config) (before : List Happening) (r
   same_kept : (id : NodeId) (s t : State) → s.rings ≡ t.rings → KeepsNothing config id t → KeepsNothing config id s
   same_kept id s t e none table has member outside = subst (λ (rs : List RingState). slice_index_or rs table.id.0 no_votes ≡ no_votes) (sym e) (none table has member outside)
 
-  opens_fit : (id : NodeId) (after : Bool) (journal : Journal) (checkpoints : Checkpoints) (host : Host) → now.hosts id.0 ≡ host → MayOpenAt config id after journal checkpoints host
-      → WorldFits config (opens_as config id journal checkpoints host now)
-  opens_fit id after journal checkpoints (Up view) here may = fit
-  opens_fit id after journal checkpoints (Down durable pending) here may =
+  opens_fit : (id : NodeId) (after : Bool) (journal : Journal) (checkpoints : Checkpoints) (host : Host) → now.hosts id.0 ≡ host → MayOpenAt config id after journal checkpoints host → UpsFine fine (opens_as config id journal checkpoints host now)
+      → WorldFits fine config (opens_as config id journal checkpoints host now)
+  opens_fit id after journal checkpoints (Up view) here may next = fit
+  opens_fit id after journal checkpoints (Down durable pending) here may next =
       let d : DownFits config id durable pending = subst (λ (h : Host). HostFits config id h) here (fit.hosts id.0) in
       let stood : PossibleFits config id (chosen after durable pending) = picked id after durable pending d in
       let both = subst (λ (h : Host). HostCarries (IsAsked config (asked_in config before)) (IsValid config) h) here ((all_keep config before ran).carried.hosts id.0) in
       let carries = which after durable pending both.0 both.1 in
-      let effects = opened_fits config (are_numbered config valid) (IsAsked config (asked_in config before)) (λ r e is. entry_of_bytes config (asked_in config before) valid r e is) id (partitions_fit config valid id) journal checkpoints
+      let effects = opened_fits config (are_numbered config valid) (IsAsked config (asked_in config before)) (λ r e is. entry_of_bytes config (asked_in config before) valid r e is) fine id (partitions_fit config valid id) journal checkpoints
       (subst (λ (rs : List RingState). (ring : ℕ) → VotesCarry (IsAsked config (asked_in config before)) ring (slice_index_or rs ring no_votes).votes) (sym may.rings) carries.state)
       (subst (λ (o : Option Checkpoint). NewestKeeps o) (sym may.newest) (carries.newest valid)) (subst (λ (o : Option Checkpoint). NewestFits o) (sym may.newest) stood.newest)
-      (same_kept id journal.state (chosen after durable pending).state may.rings stood.none) in
+      (same_kept id journal.state (chosen after durable pending).state may.rings stood.none)
+      (opened_fine fine config id journal checkpoints (next id (opened config id journal checkpoints).view (itself id.0 (Up (opened config id journal checkpoints).view) (now.hosts id.0)))) in
       record {
         hosts = put_host config id (Up (opened config id journal checkpoints).view) now (record { there = may.node; rings = opened_rings config id journal checkpoints; whole = effects.view }) fit.hosts;
-        frames = appended (FromFits config) now.frames (opened config id journal checkpoints).frames fit.frames (mapped (SentFits id) (FromFits config) (own_fits config id may.node) (opened config id journal checkpoints).frames effects.frames);
+        frames = appended (FromFits fine config) now.frames (opened config id journal checkpoints).frames fit.frames (mapped (SentFits fine id) (FromFits fine config) (own_fits config fine id may.node) (opened config id journal checkpoints).frames effects.frames);
       }
     where
       which : (after : Bool) (x y : Possible) → PossibleCarries (IsAsked config (asked_in config before)) (IsValid config) x → PossibleCarries (IsAsked config (asked_in config before)) (IsValid config) y
@@ -427,7 +454,7 @@ module _ (config : Config) (valid : IsValid config) (before : List Happening) (r
       which false x y p q = p
       which true x y p q = q
 
-  fails_fit : (id : NodeId) (after : Bool) (left : Possible) (cause : Cause) (host : Host) → now.hosts id.0 ≡ host → IsNode config id → MayLeaveAt after left host → WorldFits config (fails_as id after left cause host now)
+  fails_fit : (id : NodeId) (after : Bool) (left : Possible) (cause : Cause) (host : Host) → now.hosts id.0 ≡ host → IsNode config id → MayLeaveAt after left host → WorldFits fine config (fails_as id after left cause host now)
   fails_fit id after left cause (Up view) here there may = fit
   fails_fit id after left cause (Down durable pending) here there may =
       let d : DownFits config id durable pending = subst (λ (h : Host). HostFits config id h) here (fit.hosts id.0) in
@@ -438,20 +465,20 @@ module _ (config : Config) (valid : IsValid config) (before : List Happening) (r
         absent = λ none. absurd (none there);
       })
 
-  client_step_fits : (id : ClientId) (effects : ClientEffects) → AllByRecursion IsOfClient effects.frames → WorldFits config (client_step id effects now)
-  client_step_fits id effects all = record { hosts = fit.hosts; frames = appended (FromFits config) now.frames effects.frames fit.frames (mapped IsOfClient (FromFits config) (client_fits config) effects.frames all) }
+  client_step_fits : (id : ClientId) (effects : ClientEffects) → AllByRecursion IsOfClient effects.frames → WorldFits fine config (client_step id effects now)
+  client_step_fits id effects all = record { hosts = fit.hosts; frames = appended (FromFits fine config) now.frames effects.frames fit.frames (mapped IsOfClient (FromFits fine config) (client_fits config fine) effects.frames all) }
 
-  happens_fit : (h : Happening) → MayHappen config now h → WorldFits config (happens config h now)
-  happens_fit (Steps id event) may = steps_fit id event (now.hosts id.0) refl may
-  happens_fit (Breaks id event cause) may = breaks_fit id event cause (now.hosts id.0) refl may
-  happens_fit (Crashes id cause) may = crashes_fit id cause (now.hosts id.0) refl
-  happens_fit (Opens id after journal checkpoints) may = opens_fit id after journal checkpoints (now.hosts id.0) refl may
-  happens_fit (Fails id after left cause) may = fails_fit id after left cause (now.hosts id.0) refl may.0 may.1
-  happens_fit (Asks id command) may = client_step_fits id (asks config (now.clients id.0) command) (asks_of config (now.clients id.0) command)
-  happens_fit (ClientTicks id) may = client_step_fits id (client_ticks config (now.clients id.0)) (ticks_of config (now.clients id.0))
-  happens_fit (ClientTakes id b) may = client_step_fits id (client_takes config (now.clients id.0) b) (takes_of config (now.clients id.0) b)
-  happens_fit (Shows id) may = record { hosts = fit.hosts; frames = fit.frames }
-  happens_fit (Lists number shown) may = record { hosts = fit.hosts; frames = fit.frames }
+  happens_fit : (h : Happening) → MayHappen config now h → UpsFine fine (happens config h now) → WorldFits fine config (happens config h now)
+  happens_fit (Steps id event) may next = steps_fit id event (now.hosts id.0) refl may
+  happens_fit (Breaks id event cause) may next = breaks_fit id event cause (now.hosts id.0) refl may
+  happens_fit (Crashes id cause) may next = crashes_fit id cause (now.hosts id.0) refl
+  happens_fit (Opens id after journal checkpoints) may next = opens_fit id after journal checkpoints (now.hosts id.0) refl may next
+  happens_fit (Fails id after left cause) may next = fails_fit id after left cause (now.hosts id.0) refl may.0 may.1
+  happens_fit (Asks id command) may next = client_step_fits id (asks config (now.clients id.0) command) (asks_of config (now.clients id.0) command)
+  happens_fit (ClientTicks id) may next = client_step_fits id (client_ticks config (now.clients id.0)) (ticks_of config (now.clients id.0))
+  happens_fit (ClientTakes id b) may next = client_step_fits id (client_takes config (now.clients id.0) b) (takes_of config (now.clients id.0) b)
+  happens_fit (Shows id) may next = record { hosts = fit.hosts; frames = fit.frames }
+  happens_fit (Lists number shown) may next = record { hosts = fit.hosts; frames = fit.frames }
 
 -- ---- every run
 
@@ -460,20 +487,38 @@ nothing_none id zero i = refl
 nothing_none id (suc n) zero = refl
 nothing_none id (suc n) (suc i) = nothing_none id n i
 
-nothing_fits : (config : Config) → WorldFits config nothing
-nothing_fits config = record {
+nothing_fits : (fine : ℕ → Type 0) (config : Config) → WorldFits fine config nothing
+nothing_fits fine config = record {
   hosts = λ n. record { durable_fits = record { newest = tt; none = λ t has m o. nothing_none (node n) 16 t.id.0 }; pending_fits = record { newest = tt; none = λ t has m o. nothing_none (node n) 16 t.id.0 }; absent = λ none. (refl, refl) };
   frames = tt;
 }
 
-goes_on : (config : Config) → IsValid config → (hs before : List Happening) → MayRun config nothing before → WorldFits config (run config before nothing) → MayRun config (run config before nothing) hs
-    → WorldFits config (run config hs (run config before nothing))
-goes_on config valid [] before ran fit may = fit
-goes_on config valid (h ∷ hs) before ran fit may =
-    let next = happens_fit config valid before ran fit h may.0 in
-    let same = run_both config nothing before (h ∷ []) in
-    subst (λ (w : World). WorldFits config (run config hs w)) same
-    (goes_on config valid hs (before ++ h ∷ []) (may_both config nothing before (h ∷ []) ran (may.0, tt)) (subst (λ (w : World). WorldFits config w) (sym same) next) (subst (λ (w : World). MayRun config w hs) (sym same) may.1))
+-- in each world on the way the epoch of each node that is up is fine
+abbrev pub AllFine : (ℕ → Type 0) → Config → List Happening → World → Type 0
+AllFine fine config [] w = UpsFine fine w
+AllFine fine config (h ∷ hs) w = UpsFine fine w × AllFine fine config hs (happens config h w)
 
-pub runs_fit : (config : Config) → IsValid config → (hs : List Happening) → MayRun config nothing hs → WorldFits config (run config hs nothing)
-runs_fit config valid hs may = goes_on config valid hs [] tt (nothing_fits config) may
+first_fine : (fine : ℕ → Type 0) (config : Config) (hs : List Happening) (w : World) → AllFine fine config hs w → UpsFine fine w
+first_fine fine config [] w all = all
+first_fine fine config (h ∷ hs) w all = all.0
+
+goes_on : (fine : ℕ → Type 0) (config : Config) → IsValid config → (hs before : List Happening) → MayRun config nothing before → AllFine fine config hs (run config before nothing) → WorldFits fine config (run config before nothing)
+    → MayRun config (run config before nothing) hs → WorldFits fine config (run config hs (run config before nothing))
+goes_on fine config valid [] before ran all fit may = fit
+goes_on fine config valid (h ∷ hs) before ran all fit may =
+    let next = happens_fit fine config valid before ran all.0 fit h may.0 (first_fine fine config hs (happens config h (run config before nothing)) all.1) in
+    let same = run_both config nothing before (h ∷ []) in
+    subst (λ (w : World). WorldFits fine config (run config hs w)) same
+    (goes_on fine config valid hs (before ++ h ∷ []) (may_both config nothing before (h ∷ []) ran (may.0, tt)) (subst (λ (w : World). AllFine fine config hs w) (sym same) all.1)
+    (subst (λ (w : World). WorldFits fine config w) (sym same) next) (subst (λ (w : World). MayRun config w hs) (sym same) may.1))
+
+pub runs_fine : (fine : ℕ → Type 0) (config : Config) → IsValid config → (hs : List Happening) → MayRun config nothing hs → AllFine fine config hs nothing → WorldFits fine config (run config hs nothing)
+runs_fine fine config valid hs may all = goes_on fine config valid hs [] tt all (nothing_fits fine config) may
+
+always : (config : Config) (hs : List Happening) (w : World) → AllFine (λ e. Unit {0}) config hs w
+always config [] w = λ id view here. tt
+always config (h ∷ hs) w = (λ id view here. tt, always config hs (happens config h w))
+
+-- whatever epochs are
+pub runs_fit : (config : Config) → IsValid config → (hs : List Happening) → MayRun config nothing hs → WorldFits (λ e. Unit {0}) config (run config hs nothing)
+runs_fit config valid hs may = runs_fine (λ e. Unit {0}) config valid hs may (always config hs nothing)

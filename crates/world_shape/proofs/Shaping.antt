@@ -50,7 +50,6 @@ use Rattle.valid_runs.specs.Worlds.{HostValid, WorldValid}
 use Rattle.valid_runs.proofs.Running.{event_valid, runs_valid}
 use Rattle.ask_laws.specs.Asks.{asked_in, IsAsked}
 use Rattle.ask_laws.specs.Carried.{PartyCarries, SentCarries}
-use Rattle.ask_laws.proofs.Worlds.{all_keep}
 use Rattle.recovery_lines.specs.Ties.{TellsTuple, PartySaid, IsSaid, ReplicaLines, rings_in}
 use Rattle.disk_states.specs.Works.{journal_after}
 use Rattle.bare_ties.proofs.Changing.{step_by}
@@ -58,7 +57,7 @@ use Rattle.disk_runs.proofs.Tuples.{known_spelled}
 use Rattle.disk_runs.proofs.Works.{listed}
 use Rattle.step_shape.specs.Shaped.{BodyFits, MayGo, MemberFits}
 use Rattle.step_shape.proofs.Ending.{are_numbered}
-use Rattle.world_shape.specs.Shape.{served, RoleShape, PartShape, NodeShape, HostShape, StepShape, SentShape, WorldShape}
+use Rattle.world_shape.specs.Shape.{served, RoleShape, PartShape, NodeShape, HostShape, StepShape, SentShape}
 use Rattle.world_shape.proofs.Spelled.{HasTuples, spelled_body, short_frame, has_widths}
 use Rattle.world_shape.proofs.Fitting.{HostFits, UpFits, FromFits, PartyFits, WorldFits, blank, lines_of, up_lines, view_valid, part_stands, found_part, runs_fit}
 
@@ -176,7 +175,7 @@ concerned_low config valid command =
 
 -- ---- the journal after a step
 
-state_after : (view : View) (work : Work) → (journal_after view work).state ≡ taken (changes_in work) view.journal.state
+pub state_after : (view : View) (work : Work) → (journal_after view work).state ≡ taken (changes_in work) view.journal.state
 state_after view Nothing = refl
 state_after view (Records []) = refl
 state_after view (Records (c ∷ cs)) = refl
@@ -189,7 +188,7 @@ module _ (config : Config) (valid : IsValid config) (before : List Happening) (r
   abbrev now : World
   now = run config before nothing
 
-  abbrev fit : WorldFits config now
+  abbrev fit : WorldFits (λ e. Unit {0}) config now
   fit = runs_fit config valid before ran
 
   abbrev good : WorldValid config now
@@ -205,13 +204,13 @@ module _ (config : Config) (valid : IsValid config) (before : List Happening) (r
 
   found_part_of : (id : NodeId) (view : View) → now.hosts id.0 ≡ Up view → (ring : RingId) (p : RingPart) → part_at view ring ≡ Some p → Found view p
   found_part_of id view here ring p e =
-      let member = found_part (MemberValid config view.id) view.parts ring p (view_valid config valid before ran id view here).parts e in
-      let named = (up_lines config valid before ran id view here).id in
+      let member = found_part (MemberValid config view.id) view.parts ring p (view_valid (λ e. Unit {0}) config valid before ran id view here).parts e in
+      let named = (up_lines (λ e. Unit {0}) config valid before ran id view here).id in
       let table : RingTable = member.of_ring.table in
       let same : p.ring ≡ ring_of config id table = subst (λ (n : NodeId). p.ring ≡ ring_of config n table) named member.of_ring.same in
       let of_id : p.ring.id ≡ table.id = ap (λ (r : Ring). r.id) same in
       let at : ring ≡ table.id = same_ring ring p.ring.id (sym (found_id view.parts ring p e)) ∙ of_id in
-      let stands = (part_stands config valid before ran table member.of_ring.listed id view here).1.part p (subst (λ (r : RingId). part_at view r ≡ Some p) at e) in
+      let stands = (part_stands (λ e. Unit {0}) config valid before ran table member.of_ring.listed id view here).1.part p (subst (λ (r : RingId). part_at view r ≡ Some p) at e) in
       record {
         journal = stands.kept ∙ ap (λ (r : RingId). ring_at view.journal.state r) (sym of_id);
         role = subst (λ (r : Ring). RoleShape r p.part.coordinator.role) (sym same) (by (ring_of config id table) _ _ p.part.coordinator.role stands.ties.role member.part.role);
@@ -227,8 +226,8 @@ module _ (config : Config) (valid : IsValid config) (before : List Happening) (r
   node_shape : (id : NodeId) (view : View) → now.hosts id.0 ≡ Up view → NodeShape config id view
   node_shape id view here =
       let u = up_fits id view here in
-      let v = view_valid config valid before ran id view here in
-      let lines = up_lines config valid before ran id view here in
+      let v = view_valid (λ e. Unit {0}) config valid before ran id view here in
+      let lines = up_lines (λ e. Unit {0}) config valid before ran id view here in
       record {
         there = u.there;
         named = lines.id;
@@ -247,11 +246,11 @@ module _ (config : Config) (valid : IsValid config) (before : List Happening) (r
       by None replica = sym replica
       by (Some service) replica = sym replica.own.replica
 
-  host_shape : (id : NodeId) (host : Host) → now.hosts id.0 ≡ host → HostShape config id host
+  pub host_shape : (id : NodeId) (host : Host) → now.hosts id.0 ≡ host → HostShape config id host
   host_shape id (Up view) here = node_shape id view here
   host_shape id (Down durable pending) here = subst (λ (h : Host). HostValid config h) here (good.hosts id.0)
 
-  absent : (id : NodeId) → (IsNode config id → ⊥) → now.hosts id.0 ≡ nothing.hosts id.0
+  pub absent : (id : NodeId) → (IsNode config id → ⊥) → now.hosts id.0 ≡ nothing.hosts id.0
   absent id none = by (now.hosts id.0) (fit.hosts id.0)
     where
       by : (host : Host) → HostFits config id host → host ≡ nothing.hosts id.0
@@ -264,7 +263,7 @@ module _ (config : Config) (valid : IsValid config) (before : List Happening) (r
   tuple_of x tuple t =
       let partition = all_has (IsPartition (node_ids config.nodes) (ring_ids config.rings)) config.partitions t.partition valid.partitions.each (listed config.partitions x t.partition t.replica) in
       known_spelled config now.lines good.lines (node_ids config.nodes) (ring_ids config.rings) t.partition partition (round_sizes config) tuple t.valid
-      ((lines_of config valid before ran).known x t.partition tuple t.replica t.valid t.told)
+      ((lines_of (λ e. Unit {0}) config valid before ran).known x t.partition tuple t.replica t.valid t.told)
 
   -- the tuples of a frame from one node, to another where it has any
   tuples_to : (x : NodeId) (to : Party) (b : Body) → MayGo to b → PartySaid config (past [] now.lines) (Node x) to b → HasTuples b
@@ -276,28 +275,28 @@ module _ (config : Config) (valid : IsValid config) (before : List Happening) (r
   tuples_to x (Client y) (body.Reply client seq partition reply) may said = tt
   tuples_to x (Client y) other may said = absurd may
 
-  node_frame : (x : NodeId) (to : Party) (b : Body) → BodyValid b → IsNode config x → BodyFits b → MayGo to b → PartySaid config (past [] now.lines) (Node x) to b → SentShape (record { to = to; frame = record { from = Node x; body = b } })
+  node_frame : (x : NodeId) (to : Party) (b : Body) → BodyValid b → IsNode config x → BodyFits (λ e. Unit {0}) b → MayGo to b → PartySaid config (past [] now.lines) (Node x) to b → SentShape (record { to = to; frame = record { from = Node x; body = b } })
   node_frame x to b v there f may said =
       let t = tuples_to x to b may said in
-      record { frame = record { from = node_low config.nodes valid.nodes.numbers x.0 there.0 there.1; body = spelled_body b v f t; short = short_frame (Node x) b v f t }; numbers = has_widths b f; id = tt }
+      record { frame = record { from = node_low config.nodes valid.nodes.numbers x.0 there.0 there.1; body = spelled_body (λ e. Unit {0}) b v f t; short = short_frame (λ e. Unit {0}) (Node x) b v f t }; numbers = has_widths (λ e. Unit {0}) b f; id = tt }
 
   client_frame : (c : ClientId) (to : Party) (b : Body) → BodyValid b → PartyCarries (IsAsked config (asked_in config before)) (IsValid config) (Client c) b → SentShape (record { to = to; frame = record { from = Client c; body = b } })
   client_frame c to (body.Submit r hops client seq command) v carries =
       let is = carries.2 in
-      let f : BodyFits (body.Submit r hops client seq command) = (route_low (concerned_of is.command config.partitions) (concerned_low config valid is.command) r is.route, let none = carries.0 in omega arith) in
+      let f : BodyFits (λ e. Unit {0}) (body.Submit r hops client seq command) = (route_low (concerned_of is.command config.partitions) (concerned_low config valid is.command) r is.route, let none = carries.0 in omega arith) in
       let who : c.0 < 256 = (let same : client.0 ≡ c.0 = ap (λ (n : ClientId). n.0) carries.1 in let low = client_low config.clients valid.clients.numbers client.0 is.client.0 is.client.1 in omega arith) in
-      record { frame = record { from = carries.0; body = spelled_body (body.Submit r hops client seq command) v f tt; short = short_frame (Client c) (body.Submit r hops client seq command) v f tt }; numbers = tt; id = who }
+      record { frame = record { from = carries.0; body = spelled_body (λ e. Unit {0}) (body.Submit r hops client seq command) v f tt; short = short_frame (λ e. Unit {0}) (Client c) (body.Submit r hops client seq command) v f tt }; numbers = tt; id = who }
   client_frame c to other v carries = absurd carries
 
-  sent_shape : (sent : Sent) → SentValid sent → FromFits config sent → IsSaid config (past [] now.lines) sent → SentCarries (IsAsked config (asked_in config before)) (IsValid config) sent → SentShape sent
+  sent_shape : (sent : Sent) → SentValid sent → FromFits (λ e. Unit {0}) config sent → IsSaid config (past [] now.lines) sent → SentCarries (IsAsked config (asked_in config before)) (IsValid config) sent → SentShape sent
   sent_shape sent v f said carries = by sent.frame.from f said carries
     where
-      by : (from : Party) → PartyFits config from sent.to sent.frame.body → PartySaid config (past [] now.lines) from sent.to sent.frame.body → PartyCarries (IsAsked config (asked_in config before)) (IsValid config) from sent.frame.body
+      by : (from : Party) → PartyFits (λ e. Unit {0}) config from sent.to sent.frame.body → PartySaid config (past [] now.lines) from sent.to sent.frame.body → PartyCarries (IsAsked config (asked_in config before)) (IsValid config) from sent.frame.body
           → SentShape (record { to = sent.to; frame = record { from = from; body = sent.frame.body } })
       by (Node x) fits told c = node_frame x sent.to sent.frame.body v fits.0 fits.1 fits.2 told
       by (Client x) fits told c = client_frame x sent.to sent.frame.body v c
 
-  all_sent : (frames : List Sent) → AllByRecursion SentValid frames → AllByRecursion (FromFits config) frames → AllByRecursion (IsSaid config (past [] now.lines)) frames
+  pub all_sent : (frames : List Sent) → AllByRecursion SentValid frames → AllByRecursion (FromFits (λ e. Unit {0}) config) frames → AllByRecursion (IsSaid config (past [] now.lines)) frames
       → AllByRecursion (SentCarries (IsAsked config (asked_in config before)) (IsValid config)) frames → AllByRecursion SentShape frames
   all_sent [] v f s c = tt
   all_sent (sent ∷ frames) v f s c = (sent_shape sent v.0 f.0 s.0 c.0, all_sent frames v.1 f.1 s.1 c.1)
@@ -320,11 +319,11 @@ stepped_there config before id view event here =
         go false e = absurd (let yes : (n == n) ≡ true = grind (arith, nat_tests) in true≢false (sym yes ∙ e))
 
 module _ (config : Config) (valid : IsValid config) (before : List Happening) (ran : MayRun config nothing before) where
-  step_shape : (id : NodeId) (view : View) (event : Event) → (run config before nothing).hosts id.0 ≡ Up view → MayCome (run config before nothing) id event → StepShape view (step config view event)
+  pub step_shape : (id : NodeId) (view : View) (event : Event) → (run config before nothing).hosts id.0 ≡ Up view → MayCome (run config before nothing) id event → StepShape view (step config view event)
   step_shape id view event here may = record { changes = s.changes; kept = λ ring p q e d. kept ring p q e d }
     where
       v : ViewValid config view
-      v = view_valid config valid before ran id view here
+      v = view_valid (λ e. Unit {0}) config valid before ran id view here
 
       s : StepValid config view.id (step config view event)
       s = step_valid config (are_numbered config valid) view v event (event_valid config (are_numbered config valid) (run config before nothing) id event may (runs_valid config valid before ran))
@@ -351,15 +350,3 @@ module _ (config : Config) (valid : IsValid config) (before : List Happening) (r
           two.journal ∙ ap (λ (r : RingId). ring_at (step config view event).view.journal.state r) second ∙ ap (λ (x : State). ring_at x ring) state
           ∙ ring_taken ring (changes_in (step config view event).work) view.journal.state (omega arith)
           ∙ ap (λ (r : RingState). kept_after ring (changes_in (step config view event).work) r) (ap (λ (r : RingId). ring_at view.journal.state r) (sym first) ∙ sym one.journal)
-
--- ---- every run
-
-pub runs_shaped : (config : Config) → IsValid config → (hs : List Happening) → MayRun config nothing hs → WorldShape config (run config hs nothing)
-runs_shaped config valid hs may = record {
-  absent = absent config valid hs may;
-  nodes = λ id. host_shape config valid hs may id ((run config hs nothing).hosts id.0) refl;
-  clients = λ c. ((all_keep config hs may).clients.each c).id;
-  steps = λ id view event here came. step_shape config valid hs may id view event here came;
-  works = (runs_valid config valid hs may).works;
-  frames = all_sent config valid hs may (run config hs nothing).frames (runs_valid config valid hs may).frames (runs_fit config valid hs may).frames (lines_of config valid hs may).frames (all_keep config hs may).carried.frames;
-}

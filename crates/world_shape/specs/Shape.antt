@@ -1,5 +1,5 @@
 -- The shape of a world without bytes, and the widths of all that is in it, as one definition.
-use Rattle.std.specs.Prelude.{◌≡◌, ℕ, ◌<◌, ◌≤◌, ◌^◌, false, List, map, filter, length, Option, Some, None}
+use Rattle.std.specs.Prelude.{◌≡◌, ℕ, ◌-◌, ◌<◌, ◌≤◌, ◌^◌, false, List, map, filter, length, Option, Some, None}
 use Rattle.std.specs.List.{AllByRecursion}
 use Rattle.mrp_types.specs.declared.id.NodeId.{NodeId}
 use Rattle.mrp_types.specs.declared.id.RingId.{RingId}
@@ -19,11 +19,12 @@ use Rattle.protocol.specs.Rings.{ring_of, is_member, is_acceptor}
 use Rattle.protocol.specs.Node.{View, RingPart, Service, Event, Work, Stepped, part_at}
 use Rattle.protocol.specs.Step.{step}
 use Rattle.beside_rings.specs.Beside.{changes_in}
-use Rattle.bare_world.specs.Worlds.{Host, Up, Down, World, Happening, nothing}
+use Rattle.bare_world.specs.Worlds.{Possible, Host, Up, Down, World, Happening, nothing}
 use Rattle.bare_world.specs.Runs.{IsNode, MayCome, MayRun}
 use Rattle.world_model.specs.Worlds.{World as DiskWorld}
 use Rattle.disk_runs.specs.Runs.{WorldTies, world_after}
 use Rattle.recovery_lines.specs.Ties.{rings_in}
+use Rattle.line_runs.specs.Laws.{IsPossible}
 use Rattle.step_shape.specs.Shaped.{IsOutside}
 
 -- ---- a node's rings and its partition
@@ -84,7 +85,7 @@ pub record StepShape (view : View) (made : Stepped) : Type 0 where
 -- ---- frames
 
 -- The numbers of a frame are below 2 ^ 32 and 2 ^ 64, as those of the code are, but for the number of a round, which has no limit, and
--- that of an epoch, which has none in a world without bytes.
+-- that of an epoch, which has none in a world without bytes: there it is bounded by the epochs of nodes.
 abbrev pub HasWidths : Body → Type 0
 HasWidths (body.AskCheckpoint epoch attempt) = attempt < 2 ^ 32
 HasWidths (body.HaveCheckpoint epoch attempt tuple) = attempt < 2 ^ 32
@@ -100,6 +101,22 @@ pub record SentShape (sent : Sent) : Type 0 where
   pub numbers : HasWidths sent.frame.body
   pub id : HasId sent.frame.from
 
+-- the epoch of a frame that names one
+abbrev pub EpochIs : (ℕ → Type 0) → Body → Type 0
+EpochIs P (body.AskCheckpoint epoch attempt) = P epoch
+EpochIs P (body.HaveCheckpoint epoch attempt tuple) = P epoch
+EpochIs P (body.AskPart epoch attempt tuple offset) = P epoch
+EpochIs P (body.Part epoch attempt tuple offset total bytes) = P epoch
+EpochIs P (body.Gone epoch attempt asked newer) = P epoch
+EpochIs P other = Unit {0}
+
+abbrev pub EpochAtMost : ℕ → Sent → Type 0
+EpochAtMost limit sent = EpochIs (λ epoch. epoch ≤ limit) sent.frame.body
+
+-- the epoch of each state that some disk may stand for is at most this
+abbrev pub AreAtMost : ℕ → World → Type 0
+AreAtMost limit w = (n : ℕ) (s : Possible) → IsPossible (w.hosts n) s → s.state.epoch ≤ limit
+
 -- ---- a world
 
 -- Nodes that the deployment doesn't have were never opened; each other one has its shape, and so do its next step and every frame. A
@@ -111,13 +128,17 @@ pub record WorldShape (config : Config) (w : World) : Type 0 where
   pub steps : (id : NodeId) (view : View) (event : Event) → w.hosts id.0 ≡ Up view → MayCome w id event → StepShape view (step config view event)
   pub works : AllByRecursion (λ (x : NodeId × Work). AllByRecursion IsChange (changes_in x.1)) w.works
   pub frames : AllByRecursion SentShape w.frames
+  -- no frame names an epoch above those of all states that disks may stand for
+  pub epochs : (limit : ℕ) → AreAtMost limit w → AllByRecursion (EpochAtMost limit) w.frames
 
 -- ---- on disks
 
--- A world on disks is tied to one without bytes that a run has reached and that has its shape; and so each of its frames has it.
+-- A world on disks is tied to one without bytes that a run has reached and that has its shape; and so each of its frames has it, and an
+-- epoch below 2 ^ 32 where it names one.
 pub record DiskShape (config : Config) (w : DiskWorld) : Type 0 where
   pub past : List Happening
   pub may : MayRun config nothing past
   pub ties : WorldTies config w (world_after config past)
   pub shape : WorldShape config (world_after config past)
   pub frames : AllByRecursion SentShape w.frames
+  pub epochs : AllByRecursion (EpochAtMost (2 ^ 32 - 1)) w.frames

@@ -1,4 +1,4 @@
-use Rattle.world_shape.proofs.Shaping.{runs_shaped}
+use Rattle.world_shape.proofs.Disks.{runs_shaped}
 use Rattle.world_shape.proofs.every_run_has_its_shape.Goals as goal
 
 pub returns : goal.returns
