@@ -5,8 +5,10 @@
 //! `laws` says that the parts of a replica, each with its commands, make the fold's step.
 #![tactic(auto)]
 
+mod fault;
 mod laws;
 mod service;
 
+pub use fault::StateFault;
 pub use laws::{commands_keep_to_their_part, growth_decides_room};
 pub use service::{ROOM, Service};
