@@ -1,0 +1,4 @@
+mod ValueLaws
+mod LogsLaws
+mod TrimLaws
+mod CallLaws
