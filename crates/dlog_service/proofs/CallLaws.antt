@@ -1,5 +1,5 @@
 -- What the calls of the service owe, from what the functions below them say.
-use Rattle.std.proofs.Common.{arith, ◌≡◌, ℕ, zero, suc, ◌+◌, ◌-◌, ◌*◌, ◌^◌, ◌<◌, ◌≤◌, nat_lt, nat_le, Bool, true, false, if◌then◌else◌, List, [], ◌∷◌, ◌++◌, length, drop, map, set, get_or, Option, Some, None, Result, Ok, Err, inl, inr, refl, sym, ◌∙◌, ap, subst, IsTrue}
+use Rattle.std.proofs.Common.{arith, ◌≡◌, ℕ, ◌+◌, ◌-◌, ◌*◌, ◌^◌, ◌<◌, ◌≤◌, nat_lt, Bool, true, false, if◌then◌else◌, List, [], ◌∷◌, length, map, set, get_or, Some, Result, Ok, Err, inl, inr, refl, sym, ◌∙◌, ap, subst, IsTrue}
 use Rattle.std.specs.Prelude.{◌⊎◌, ◌==◌, slice_get, IfOk, OnOk}
 use Rattle.std.specs.List.{sum_by, count_by, list_any}
 use Rattle.std.proofs.lemmas.Bool.{ltb-false}
@@ -18,7 +18,7 @@ use Rattle.command_codec.specs.declared.reply.Reply.TheVariants.{Positions}
 use Rattle.command_codec.specs.declared.reply.Reply.TheVariants as replies
 use Rattle.command_codec.specs.Valid.{IsCommand, rises_from}
 use Rattle.command_codec.specs.Replies.{IsReply}
-use Rattle.plain_model.specs.Replicas.{LogState, Effect, effect_of, log_length, log_size, log_at, empty_log, ends_of, read_at, trimming, told, with_value, with_log, trimmed_to, is_one_too_long, value_of, updating, inserting, deleting, swapping}
+use Rattle.plain_model.specs.Replicas.{LogState, Effect, effect_of, log_length, log_size, log_at, empty_log, ends_of, read_at, trimming, told, with_value, with_log, trimmed_to, is_one_too_long}
 use Rattle.plain_model.proofs.FoldLogs.{number_is}
 use Rattle.services.specs.Parts.{Logs, ids_of, part_size, growth_of}
 use Rattle.dlog_service.specs.Logs.{AreLogs, is_named, logs_size, values_size}

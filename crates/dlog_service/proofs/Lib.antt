@@ -2,3 +2,4 @@ mod ValueLaws
 mod LogsLaws
 mod TrimLaws
 mod CallLaws
+mod ReadLaws

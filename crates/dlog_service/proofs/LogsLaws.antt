@@ -1,5 +1,5 @@
 -- Logs that take a value, logs of which one is trimmed, and how many bytes they have.
-use Rattle.std.proofs.Common.{arith, ◌≡◌, ℕ, zero, suc, ◌+◌, ◌-◌, ◌*◌, ◌^◌, ◌<◌, ◌≤◌, nat_lt, nat_le, Bool, true, false, if◌then◌else◌, List, [], ◌∷◌, ◌++◌, length, take, drop, map, get_or, set, Option, Some, None, refl, sym, ◌∙◌, ap, subst, IsTrue, length-append, append_assoc, true≢false}
+use Rattle.std.proofs.Common.{arith, ◌≡◌, ℕ, zero, suc, ◌+◌, ◌*◌, ◌^◌, ◌<◌, ◌≤◌, nat_lt, nat_le, Bool, true, false, if◌then◌else◌, List, [], ◌∷◌, ◌++◌, length, take, drop, get_or, set, Option, Some, None, refl, sym, ◌∙◌, ap, subst, IsTrue, length-append, append_assoc, true≢false}
 use Rattle.std.specs.Prelude.{◌||◌, ◌&&◌, ◌==◌, slice_get}
 use Rattle.std.specs.List.{sum_by, count_by, list_any, cons_option}
 use Rattle.std.proofs.lemmas.Bool.Decides.{nat_tests}
@@ -8,23 +8,21 @@ use Rattle.std.proofs.lemmas.Option.{slice_get_read}
 use Rattle.std.proofs.Math.Seq.{drop-cons}
 use Rattle.mrp_types.specs.declared.id.LogId.{LogId}
 use Rattle.command_codec.specs.declared.command.Command.{Command}
-use Rattle.command_codec.specs.declared.command.Command.TheVariants.{Append, Multi, ReadLog, TrimLog, Get, Scan, Update, Insert, Delete, Swap}
+use Rattle.command_codec.specs.declared.command.Command.TheVariants.{Append, Multi, ReadLog, TrimLog}
 use Rattle.command_codec.specs.declared.reply.Reply.{Reply}
 use Rattle.command_codec.specs.declared.reply.Reply.TheVariants.{Positions}
 use Rattle.command_codec.specs.declared.reply.LogPosition.{LogPosition}
-use Rattle.mrp_config.specs.Config.{has_log}
-use Rattle.plain_model.specs.Replicas.{LogState, log_length, log_size, log_at, ends_of, with_value, with_log, is_one_too_long, trimmed_to, effect_of, read_at, trimming}
+use Rattle.plain_model.specs.Replicas.{LogState, log_length, log_size, log_at, ends_of, with_value, is_one_too_long, effect_of, read_at, trimming}
 use Rattle.plain_model.specs.StateBytes.{logs_bytes, table_bytes}
 use Rattle.plain_model.proofs.SizeLaws.{services-written}
-use Rattle.plain_model.proofs.FoldLogs.{number_is}
-use Rattle.state_laws.specs.States.{IsLog, AreLogsOf}
+use Rattle.state_laws.specs.States.{AreLogsOf}
 use Rattle.state_laws.proofs.Logs.{shaped, with_lengths, with_value_shaped}
 use Rattle.state_laws.proofs.Replies.{AreBelow, effect_is}
 use Rattle.command_codec.specs.Valid.{IsCommand, IsStored, rises_from}
 use Rattle.command_codec.specs.Replies.{IsReply}
 use Rattle.std.proofs.lemmas.Bool.{ltb-true, leb-true}
 use Rattle.services.specs.Parts.{ids_of, Logs, part_size, growth_of}
-use Rattle.dlog_service.specs.Logs.{AreLogs, is_named, appended, logs_size, values_size}
+use Rattle.dlog_service.specs.Logs.{AreLogs, is_named, appended, logs_size}
 
 -- ---- looking one up
 

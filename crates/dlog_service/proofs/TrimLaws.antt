@@ -1,15 +1,15 @@
 -- One log is trimmed, the others stay.
-use Rattle.std.proofs.Common.{arith, ◌≡◌, ℕ, zero, suc, ◌+◌, ◌-◌, ◌*◌, ◌^◌, ◌<◌, ◌≤◌, nat_lt, nat_le, max, Bool, true, false, if◌then◌else◌, List, [], ◌∷◌, ◌++◌, length, drop, map, set, Option, Some, None, inl, inr, refl, sym, ◌∙◌, ap, subst, IsTrue, true≢false, length-drop}
+use Rattle.std.proofs.Common.{arith, ◌≡◌, ℕ, zero, suc, ◌+◌, ◌-◌, ◌<◌, ◌≤◌, nat_lt, nat_le, Bool, true, false, if◌then◌else◌, List, [], ◌∷◌, length, drop, set, Some, inl, inr, refl, sym, ◌∙◌, ap, subst, IsTrue, true≢false, length-drop}
 use Rattle.std.specs.Prelude.{◌⊎◌, ◌&&◌, ◌==◌, slice_get}
-use Rattle.std.specs.List.{sum_by, AllByRecursion}
+use Rattle.std.specs.List.{sum_by}
 use Rattle.std.proofs.lemmas.Bool.Decides.{nat_tests}
-use Rattle.std.proofs.lemmas.Bool.{ltb-true, leb-true, ltb-false}
+use Rattle.std.proofs.lemmas.Bool.{leb-true}
 use Rattle.std.proofs.lemmas.List.Sums.{sum_by-cons}
 use Rattle.mrp_types.specs.declared.id.LogId.{LogId}
 use Rattle.command_codec.specs.Valid.{rises_from}
-use Rattle.plain_model.specs.Replicas.{LogState, log_length, log_size, log_at, empty_log, with_log, trimmed_to}
+use Rattle.plain_model.specs.Replicas.{LogState, log_length, log_size, log_at, with_log, trimmed_to}
 use Rattle.plain_model.proofs.FoldLogs.{number_is}
-use Rattle.state_laws.specs.States.{IsLog, IsShort, AreLogsOf}
+use Rattle.state_laws.specs.States.{IsLog, AreLogsOf}
 use Rattle.state_laws.proofs.Logs.{trimmed_short}
 use Rattle.services.specs.Parts.{ids_of}
 use Rattle.dlog_service.specs.Logs.{AreLogs, logs_size, values_size}

@@ -1,10 +1,10 @@
 -- What holds of the logs that a service keeps, and how many bytes a command adds to them.
-use Rattle.std.specs.Prelude.{ℕ, ◌≡◌, ◌+◌, ◌*◌, ◌^◌, nat_le, ◌&&◌, Bool, IsTrue, if◌then◌else◌, List, [], ◌∷◌, ◌++◌, length}
-use Rattle.std.specs.List.{sum_by, count_by}
+use Rattle.std.specs.Prelude.{ℕ, ◌+◌, Bool, IsTrue, if◌then◌else◌, List, [], ◌∷◌, ◌++◌, length}
+use Rattle.std.specs.List.{sum_by}
 use Rattle.mrp_types.specs.declared.id.LogId.{LogId}
 use Rattle.command_codec.specs.Valid.{rises_from}
 use Rattle.mrp_config.specs.Config.{has_log}
-use Rattle.plain_model.specs.Replicas.{LogState, log_length, log_size}
+use Rattle.plain_model.specs.Replicas.{LogState, log_size}
 use Rattle.state_laws.specs.States.{AreLogsOf}
 use Rattle.services.specs.Parts.{ids_of}
 

@@ -7,15 +7,20 @@ ghost use Rattle.command_codec.specs.Valid.{IsCommand, IsStored, rises_from};
 ghost use Rattle.command_codec.specs.Replies.{IsReply};
 ghost use Rattle.mrp_config.specs.Config.{has_log};
 ghost use Rattle.plain_model.specs.Replicas.{LogState, empty_log, with_value, is_one_too_long, ends_of, read_at, log_at, trimming};
+ghost use Rattle.command_codec.specs.Reader.{Reads, start};
+ghost use Rattle.plain_model.specs.StateBytes.{logs_at};
+ghost use Rattle.services.specs.Reading.{SaysState, with_count};
 ghost use Rattle.services.specs.Parts.{Part, Logs, ids_of, is_for, effect_on, after, part_bytes, part_size, growth_of};
 ghost use Rattle.dlog_service.specs.Logs.{AreLogs, logs_size, is_named};
 
 use crate::log::Log;
-use crate::logs::{append_each, count_named, is_one_full, new_logs, place_of, write_logs};
+use crate::logs::{append_each, count_named, is_one_full, new_logs, place_of, size_of, write_logs};
+use crate::reading::read_logs;
+use command_codec::reading::Cursor;
 use command_codec::writing::put_u8;
-use command_codec::{Command, Reply};
+use command_codec::{CodecFault, Command, Reply};
 use mrp_types::{LogId, Memory, Octets};
-use services::{ROOM, Service};
+use services::{ROOM, Service, StateFault};
 use std::alloc::Global;
 use std::marker::Model;
 
@@ -48,6 +53,37 @@ impl DLog {
     {
         let size = 1 + 17 * logs.len() as u64;
         let logs = new_logs(alloc, logs)?;
+        Ok(DLog { logs, size, alloc })
+    }
+
+    /// The logs that the section of a state at the front of the bytes has, where these are all the numbers that it may name,
+    /// and how many bytes the section takes. What follows it stays unread.
+    pub fn read_state(
+        alloc: Global,
+        bytes: &[u8],
+        logs: &[LogId],
+    ) -> Result<(DLog, usize), StateFault>
+        requires { IsTrue (rises_from 0 logs.now) }
+        ensures { SaysState (λ x. x) (with_count (logs_at logs.now (start bytes.now))) result }
+    {
+        let mut fields = Cursor::new(bytes);
+        let read = DLog::read_from(alloc, &mut fields, logs)?;
+        Ok((read, fields.at()))
+    }
+
+    /// The same among the fields of a state.
+    pub fn read_from(
+        alloc: Global,
+        fields: &mut Cursor<'_>,
+        logs: &[LogId],
+    ) -> Result<DLog, CodecFault>
+        requires { IsTrue (rises_from 0 logs.now) }
+        ensures { Reads (λ d. d) (logs_at logs.now fields.old) result fields.new }
+    {
+        let count = logs.len() as u8;
+        fields.byte_within(count, count)?;
+        let logs = read_logs(alloc, fields, logs)?;
+        let size = size_of(&logs)?;
         Ok(DLog { logs, size, alloc })
     }
 

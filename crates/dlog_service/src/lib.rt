@@ -5,5 +5,6 @@
 mod dlog;
 mod log;
 mod logs;
+mod reading;
 
 pub use dlog::DLog;

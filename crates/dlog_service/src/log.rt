@@ -50,6 +50,15 @@ impl Log {
         }
     }
 
+    /// A log of this number, of which so many values were trimmed away and these are kept.
+    pub fn with(id: LogId, trim: u64, values: VecDeque<Octets>) -> Self
+        requires few { trim + length values.items ≤ 2 ^ 63 }
+        requires short { AllByRecursion IsShort values.items }
+        ensures { result ≡ record { id = id; trim = trim; values = values.items } }
+    {
+        Log { id, trim, values }
+    }
+
     /// The log's number.
     pub fn id(&self) -> LogId
         ensures { result ≡ self.now.id }
@@ -107,6 +116,15 @@ impl Log {
         freed
     }
 
+    /// How many bytes the log has in the written state. It walks over the kept values.
+    pub fn size(&self) -> Result<u64, Memory>
+        ensures { IfOk result (λ n. n ≡ log_size self.now) }
+    {
+        let (front, back) = self.values.as_slices();
+        let some = add_sizes(17, front)?;
+        add_sizes(some, back)
+    }
+
     /// Writes the log: its number, its trim, and the kept values behind their number.
     pub fn write(&self, to: &mut Octets) -> Result<(), Memory>
         ensures { OnOk result (to.new ≡ to.old ++ log_bytes self.now) }
@@ -154,4 +172,25 @@ fn put_values(to: &mut Octets, values: &[Octets]) -> Result<(), Memory>
         put_string16(to, value.bytes())?;
     }
     Ok(())
+}
+
+/// So much and the bytes of the values, each with its length.
+fn add_sizes(so_far: u64, values: &[Octets]) -> Result<u64, Memory>
+    ensures { IfOk result (λ n. n ≡ so_far + values_size values.now) }
+{
+    let mut sum = so_far;
+    for value in values {
+        sum = plus(plus(sum, 2)?, value.len() as u64)?;
+    }
+    Ok(sum)
+}
+
+/// The sum; one past all numbers is want of memory, since no memory holds so much.
+pub fn plus(a: u64, b: u64) -> Result<u64, Memory>
+    ensures { IfOk result (λ n. n ≡ a + b) }
+{
+    let Some(sum) = a.checked_add(b) else {
+        return Err(Memory);
+    };
+    Ok(sum)
 }

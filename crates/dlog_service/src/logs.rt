@@ -7,9 +7,9 @@ ghost use Rattle.mrp_config.specs.Config.{has_log as has_log_lem};
 ghost use Rattle.plain_model.specs.Replicas.{LogState, empty_log, log_at, log_length, ends_of, with_value, is_one_too_long};
 ghost use Rattle.plain_model.specs.StateBytes.{log_bytes};
 ghost use Rattle.services.specs.Parts.{ids_of};
-ghost use Rattle.dlog_service.specs.Logs.{is_named, appended};
+ghost use Rattle.dlog_service.specs.Logs.{is_named, appended, logs_size};
 
-use crate::log::Log;
+use crate::log::{Log, plus};
 use command_codec::{LogPosition, LogPositions};
 use mrp_config::has_log;
 use mrp_types::{LogId, Memory, Octets};
@@ -103,4 +103,15 @@ pub fn write_logs(logs: &[Log], to: &mut Octets) -> Result<(), Memory>
         log.write(to)?;
     }
     Ok(())
+}
+
+/// How many bytes the logs have in the written state, their count included. It walks over their values.
+pub fn size_of(logs: &[Log]) -> Result<u64, Memory>
+    ensures { IfOk result (λ n. n ≡ logs_size logs.now) }
+{
+    let mut sum = 1;
+    for log in logs {
+        sum = plus(sum, log.size()?)?;
+    }
+    Ok(sum)
 }

@@ -1,4 +1,4 @@
-use Rattle.std.proofs.Common.{◌≡◌, ◌+◌, ◌-◌, drop}
+use Rattle.std.proofs.Common.{◌≡◌, ◌+◌, drop}
 use Rattle.dlog_service.specs.Logs.{values_size}
 use Rattle.dlog_service.proofs.log.drop_front.Given as goal
 

@@ -1,4 +1,3 @@
-use Rattle.std.proofs.Common.{sym}
 use Rattle.dlog_service.proofs.LogsLaws.{found_at}
 use Rattle.dlog_service.proofs.logs.place_of.Goals as goal
 

@@ -1,4 +1,4 @@
-use Rattle.std.proofs.Common.{◌≤◌, ◌≡◌, arith, sym, ◌∙◌, ap, Option, Some}
+use Rattle.std.proofs.Common.{◌≤◌, ◌≡◌, arith, sym, ◌∙◌, ap, Some}
 use Rattle.std.specs.Prelude.{slice_get}
 use Rattle.plain_model.specs.Replicas.{LogState, log_at, log_length}
 use Rattle.dlog_service.proofs.CallLaws.{found_here, here_is, trim_kept, trim_state, trim_reply}
