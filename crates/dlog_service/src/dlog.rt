@@ -56,6 +56,17 @@ impl DLog {
         Ok(DLog { logs, size, alloc })
     }
 
+    /// No log at all. It takes no memory.
+    pub fn none(alloc: Global) -> DLog
+        ensures { result ≡ [] }
+    {
+        DLog {
+            logs: Vec::new(alloc),
+            size: 1,
+            alloc,
+        }
+    }
+
     /// The logs that the section of a state at the front of the bytes has, where these are all the numbers that it may name,
     /// and how many bytes the section takes. What follows it stays unread.
     pub fn read_state(
