@@ -1,0 +1,5 @@
+mod ValueLaws
+mod LogsLaws
+mod TrimLaws
+mod CallLaws
+mod ReadLaws

@@ -1,0 +1,4 @@
+mod MapLaws
+mod StoreLaws
+mod CallLaws
+mod ReadLaws
