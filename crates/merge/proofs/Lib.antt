@@ -1,0 +1,5 @@
+mod LookLemmas
+mod Sized
+mod Skips
+mod Turns
+mod Settled

@@ -1,0 +1,4 @@
+pub mod Merged
+pub mod Looked
+pub mod Learned
+pub mod Ahead
