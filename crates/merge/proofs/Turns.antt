@@ -12,7 +12,7 @@ use Rattle.mrp_types.specs.Rings.{IncreasesFrom, numbers_of_rings}
 use Rattle.mrp_types.specs.Tuples.{AreNexts, IsTuple}
 use Rattle.mrp_types.specs.Moves.{place_of, next_place, is_at_or_after, is_valid_tuple, has_rings, is_tuple_of, rings_of, IsOneOf, IsNotBelow}
 use Rattle.mrp_types.proofs.TupleOrder.{both_true, none_before_next, same_number, other_number}
-use Rattle.mrp_types.proofs.TupleMoves.{itself}
+use Rattle.mrp_types.proofs.TupleMoves.{itself, has_itself}
 use Rattle.plain_model.specs.Tuples.{count_before, tuple_at}
 use Rattle.plain_model.proofs.TupleAt.{count-before}
 use Rattle.tuple_laws.proofs.NextPlaces.{at_has}
@@ -257,6 +257,7 @@ pair_of x y same = ap (λ (p : Place). (p.ring, p.inst)) same
 pub record Stopped (m : ℕ → ℕ) (maps : List (List (ℕ × Value))) (old : List (RingId × ℕ)) (at : ℕ) (q : RingId × ℕ) (stop : List (RingId × ℕ)) : Type 0 where
   pub tuple : IsTuple stop
   pub valid : is_valid_tuple m stop ≡ true
+  pub rings : rings_of stop ≡ rings_of old
   pub passes : PassesSkips m (rings_of old) maps old stop
   pub next : next_place m stop ≡ q
   pub learned : learned_at (rings_of old) maps q ≡ value_at q.1 (map_at maps at)
@@ -276,6 +277,7 @@ stopped_at m tuple ahead maps at is valid are sized inside late =
     record {
       tuple = record { some = omega arith; few = omega arith; nexts = stop_nexts m (place_of q) 0 tuple ahead maps are sized late is.nexts };
       valid = b_valid;
+      rings = has_itself b (rings_of tuple) b_has;
       passes = passes m (rings_of tuple) tuple b maps (increasing 0 tuple is.nexts)
           (both_true (has_rings (rings_of tuple) tuple) (is_valid_tuple m tuple) (own_rings tuple) valid)
           (both_true (has_rings (rings_of tuple) b) (is_valid_tuple m b) b_has b_valid)

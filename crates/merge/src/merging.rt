@@ -1,7 +1,7 @@
 //! The merge.
 ghost use Rattle.std.specs.Prelude.{◌≡◌, ◌+◌, ◌*◌, ◌≤◌, length, take, true};
 ghost use Rattle.mrp_types.specs.Rounds.{size_of};
-ghost use Rattle.mrp_types.specs.Moves.{is_valid_tuple};
+ghost use Rattle.mrp_types.specs.Moves.{is_valid_tuple, rings_of};
 ghost use Rattle.merge.specs.Merged.{Merges, HasRoom, behind as behind_lem, runs_passed};
 
 use crate::passing::pass;
@@ -48,6 +48,7 @@ fn behind(m: &RoundSizes, stop: Tuple, next: Next) -> Tuple
     requires valid { is_valid_tuple (size_of m.now) stop ≡ true }
     requires room { HasRoom (size_of m.now) next stop }
     ensures valid { is_valid_tuple (size_of m.now) result ≡ true }
+    ensures rings { rings_of result ≡ rings_of stop }
     ensures behind { result ≡ behind_lem (size_of m.now) next stop }
 {
     let Next::Deliver(_) = next else {
@@ -76,6 +77,7 @@ impl Merge {
     pub fn next<R: Runs>(&mut self, runs: &mut R) -> Next
         requires { length (R.maps runs.old) ≡ length self.old.tuple }
         ensures merges { Merges (size_of self.old.sizes) (R.maps runs.old) self.old.tuple result self.new.tuple }
+        ensures rings { rings_of self.new.tuple ≡ rings_of self.old.tuple }
         ensures sizes { self.new.sizes ≡ self.old.sizes }
         ensures maps { R.maps runs.new ≡ R.maps runs.old }
         ensures few { R.looks runs.new ≤ R.looks runs.old + length self.old.tuple + 1 }
@@ -90,7 +92,8 @@ impl Merge {
 
     /// The next instance of each of its rings: what is passed is below them.
     pub fn tuple(&self) -> Tuple
-        ensures { result ≡ self.now.tuple }
+        ensures tuple { result ≡ self.now.tuple }
+        ensures valid { is_valid_tuple (size_of self.now.sizes) result ≡ true }
     {
         self.tuple
     }

@@ -86,6 +86,7 @@ pub fn pass<R: Runs>(m: &RoundSizes, ahead: &mut [(RingId, Inst)], runs: &mut R)
     requires maps { length (R.maps runs.old) ≡ length ahead.old }
     ensures tuple { IsTuple ahead.new }
     ensures valid { is_valid_tuple (size_of m.now) ahead.new ≡ true }
+    ensures rings { rings_of ahead.new ≡ rings_of ahead.old }
     ensures stops { Stops (size_of m.now) (R.maps runs.old) ahead.old result ahead.new }
     ensures room { HasRoom (size_of m.now) result ahead.new }
     ensures maps { R.maps runs.new ≡ R.maps runs.old }

@@ -38,6 +38,10 @@ pub returns-in_default-clause-valid : goal.returns-in_default-clause-valid
 returns-in_default-clause-valid g c = (stopped (size_of c.args.m.now) c.args.ahead.now c.turns.ahead (g.R.Runs.maps c.turns.runs) c.earliest-at.result c.as_place-place.result c.settle.new.pairs c.requires.tuple c.requires.valid
     c.turns.invariant.ahead c.settle.ensures.sized c.earliest-at.ensures.within c.earliest-at.ensures.first c.as_place-place.ensures c.settle.ensures.settled).valid
 
+pub returns-in_default-clause-rings : goal.returns-in_default-clause-rings
+returns-in_default-clause-rings g c = (stopped (size_of c.args.m.now) c.args.ahead.now c.turns.ahead (g.R.Runs.maps c.turns.runs) c.earliest-at.result c.as_place-place.result c.settle.new.pairs c.requires.tuple c.requires.valid
+    c.turns.invariant.ahead c.settle.ensures.sized c.earliest-at.ensures.within c.earliest-at.ensures.first c.as_place-place.ensures c.settle.ensures.settled).rings
+
 pub returns-in_default-clause-stops : goal.returns-in_default-clause-stops
 returns-in_default-clause-stops g c =
     waits (size_of c.args.m.now) (g.R.Runs.maps c.turns.runs) (g.R.Runs.maps c.args.runs.now) c.args.ahead.now c.earliest-at.result (slice_index_or c.turns.ahead c.earliest-at.result none) c.as_place-place.result c.settle.new.pairs
@@ -56,6 +60,10 @@ returns-then-not-run-clause-tuple g c = (stopped (size_of c.args.m.now) c.args.a
 pub returns-then-not-run-clause-valid : goal.returns-then-not-run-clause-valid
 returns-then-not-run-clause-valid g c = (stopped (size_of c.args.m.now) c.args.ahead.now c.turns.ahead (g.R.Runs.maps c.turns.runs) c.earliest-at.result c.as_place-place.result c.settle-then-not-run.new.pairs c.requires.tuple c.requires.valid
     c.turns.invariant.ahead c.settle-then-not-run.ensures.sized c.earliest-at.ensures.within c.earliest-at.ensures.first c.as_place-place.ensures c.settle-then-not-run.ensures.settled).valid
+
+pub returns-then-not-run-clause-rings : goal.returns-then-not-run-clause-rings
+returns-then-not-run-clause-rings g c = (stopped (size_of c.args.m.now) c.args.ahead.now c.turns.ahead (g.R.Runs.maps c.turns.runs) c.earliest-at.result c.as_place-place.result c.settle-then-not-run.new.pairs c.requires.tuple c.requires.valid
+    c.turns.invariant.ahead c.settle-then-not-run.ensures.sized c.earliest-at.ensures.within c.earliest-at.ensures.first c.as_place-place.ensures c.settle-then-not-run.ensures.settled).rings
 
 pub returns-then-not-run-clause-stops : goal.returns-then-not-run-clause-stops
 returns-then-not-run-clause-stops g c =
