@@ -10,6 +10,7 @@ use mrp_types::{Inst, Value};
 use ring_learner::RingLearner;
 
 /// A learner for each ring, in the order of the rings, and how many looks were taken at them.
+#[derive(Drop)]
 pub struct Learners<'a> {
     learners: &'a [RingLearner],
     looks: u64,
