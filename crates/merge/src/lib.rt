@@ -5,11 +5,13 @@
 //! map answers.
 #![tactic(auto)]
 
+mod laws;
 mod learned;
 mod looks;
 mod merging;
 mod passing;
 
+pub use laws::{merges_are_one, the_step_delivers, the_step_passes_skips, the_step_waits};
 pub use learned::Learners;
 pub use looks::{Run, Runs};
 pub use merging::Merge;
