@@ -1,6 +1,6 @@
 -- The turns of a merge: what is known ahead of its tuple, and where it stops.
 use Rattle.std.proofs.Common.{arith, ◌≡◌, ◌<◌, ◌≤◌, ◌⊎◌, ◌↔◌, inl, inr, ℕ, zero, suc, ◌+◌, ◌-◌, ◌*◌, ◌^◌, ◌==◌, nat_lt, Bool, true, false, if◌then◌else◌, IsTrue, List, [], ◌∷◌, length, slice_index_or, slice_set, refl, sym, ap, subst, true≢false, ◌∙◌}
-use Rattle.std.specs.Prelude.{◌≢◌, not, Option, Some, None}
+use Rattle.std.specs.Prelude.{◌≢◌, Option, Some, None, IsNone, IfSome, Result, Ok, Err}
 use Rattle.std.proofs.Math.Path.{ap₂}
 use Rattle.std.proofs.lemmas.Bool.{cases_lt}
 use Rattle.mrp_types.specs.declared.id.RingId.{RingId}
@@ -18,8 +18,10 @@ use Rattle.plain_model.proofs.TupleAt.{count-before}
 use Rattle.tuple_laws.proofs.NextPlaces.{at_has}
 use Rattle.range_map.specs.Entries.{value_at}
 use Rattle.merge.specs.declared.looks.Run.{Run}
-use Rattle.merge.specs.Merged.{learned_at, PassesSkips, FindsBatch, Waits}
-use Rattle.merge.specs.Looked.{map_at, IsRunOf}
+use Rattle.merge.specs.declared.passing.Next.{Next}
+use Rattle.merge.specs.declared.passing.Next.TheVariants.{Deliver, Wait}
+use Rattle.merge.specs.Merged.{learned_at, PassesSkips, FindsBatch, Waits, Stops, HasRoom}
+use Rattle.merge.specs.Looked.{map_at, IsRunOf, found_at}
 use Rattle.merge.specs.Ahead.{IsAhead, AreAhead, count_ahead, AreSized, AreLate}
 use Rattle.merge.proofs.Sized.{at_valid, next_of_at, at_after}
 use Rattle.merge.proofs.Skips.{AreSkips, passes}
@@ -308,19 +310,38 @@ set_length [] at next = refl
 set_length (x ∷ pairs) zero next = refl
 set_length (x ∷ pairs) (suc at) next = ap suc (set_length pairs at next)
 
-skip_of : (t : Bool) → not t ≡ false → t ≡ true
-skip_of true e = refl
-skip_of false e = absurd (true≢false e)
+abbrev on_to : Place → Run → Result (RingId × ℕ) Next
+on_to place run = Ok (place.ring, run.end)
+
+abbrev a_batch : Place → Result (RingId × ℕ) Next
+a_batch place = Err (Deliver place)
+
+-- what a look answers
+pub record Looked (map : List (ℕ × Value)) (inst : ℕ) (o : Option Run) : Type 0 where
+  pub none : IsNone o ↔ (value_at inst map ≡ None)
+  pub run : IfSome o (λ run. IsRunOf map inst run)
 
 -- a run of skips is passed
-pub turn : (tuple ahead : List (RingId × ℕ)) (maps : List (List (ℕ × Value))) (at : ℕ) (place : Place) (run : Run) → AreAhead tuple ahead maps → at < length ahead →
-    place ≡ place_of (slice_index_or ahead at none) → IsRunOf (map_at maps at) place.inst run → not run.skip ≡ false →
-    AreAhead tuple (slice_set ahead at (place.ring, run.end)) maps × (count_ahead tuple (slice_set ahead at (place.ring, run.end)) ≡ suc (count_ahead tuple ahead))
-turn tuple ahead maps at place run are inside there is skip =
+turn_by : (tuple ahead : List (RingId × ℕ)) (maps : List (List (ℕ × Value))) (at : ℕ) (place : Place) (run : Run) (next : RingId × ℕ) → AreAhead tuple ahead maps → at < length ahead →
+    place ≡ place_of (slice_index_or ahead at none) → IsRunOf (map_at maps at) place.inst run → run.skip ≡ true → (place.ring, run.end) ≡ next →
+    AreAhead tuple (slice_set ahead at next) maps × (count_ahead tuple (slice_set ahead at next) ≡ suc (count_ahead tuple ahead))
+turn_by tuple ahead maps at place run next are inside there is skip same =
     let inst : place.inst ≡ (slice_index_or ahead at none).1 = ap (λ (p : Place). p.inst) there in
     let ring : place.ring ≡ (slice_index_or ahead at none).0 = ap (λ (p : Place). p.ring) there in
-    raised tuple ahead maps at (place.ring, run.end) are inside
-    (extends (slice_index_or ahead at none) (place.ring, run.end) (map_at maps at) run (subst (λ (n : ℕ). IsRunOf (map_at maps at) n run) inst is) (skip_of run.skip skip) ring refl)
+    raised tuple ahead maps at next are inside
+    (extends (slice_index_or ahead at none) next (map_at maps at) run (subst (λ (n : ℕ). IsRunOf (map_at maps at) n run) inst is) skip
+    (sym (ap (λ (x : RingId × ℕ). x.0) same) ∙ ring) (sym (ap (λ (x : RingId × ℕ). x.1) same)))
+
+pub turn : (tuple ahead : List (RingId × ℕ)) (maps : List (List (ℕ × Value))) (at : ℕ) (place : Place) (o : Option Run) (next : RingId × ℕ) → AreAhead tuple ahead maps → at < length ahead →
+    place ≡ place_of (slice_index_or ahead at none) → Looked (map_at maps at) place.inst o → found_at place o ≡ Ok next →
+    AreAhead tuple (slice_set ahead at next) maps × (count_ahead tuple (slice_set ahead at next) ≡ suc (count_ahead tuple ahead))
+turn tuple ahead maps at place None next are inside there looked is = absurd (cc)
+turn tuple ahead maps at place (Some run) next are inside there looked is = by run.skip refl is
+  where
+    by : (t : Bool) → run.skip ≡ t → (if t then on_to place run else a_batch place) ≡ Ok next →
+        AreAhead tuple (slice_set ahead at next) maps × (count_ahead tuple (slice_set ahead at next) ≡ suc (count_ahead tuple ahead))
+    by true skip found = let same : (place.ring, run.end) ≡ next = cc in turn_by tuple ahead maps at place run next are inside there looked.run skip same
+    by false skip found = absurd (cc)
 
 pub fewer_left : (tuple ahead : List (RingId × ℕ)) (at : ℕ) (next : RingId × ℕ) → count_ahead tuple (slice_set ahead at next) ≡ suc (count_ahead tuple ahead) →
     length (slice_set ahead at next) - count_ahead tuple (slice_set ahead at next) < length ahead - count_ahead tuple ahead
@@ -330,35 +351,31 @@ fewer_left tuple ahead at next one =
     omega arith
 
 -- nothing is learned at the place
-pub waits : (m : ℕ → ℕ) (maps all : List (List (ℕ × Value))) (old : List (RingId × ℕ)) (at : ℕ) (q : RingId × ℕ) (place : Place) (stop : List (RingId × ℕ)) → maps ≡ all → place ≡ place_of q →
-    Stopped m maps old at q stop → value_at place.inst (map_at maps at) ≡ None → Waits m all old place.ring stop
-waits m maps all old at q place stop same there is bare =
+waits : (m : ℕ → ℕ) (maps : List (List (ℕ × Value))) (old : List (RingId × ℕ)) (at : ℕ) (q : RingId × ℕ) (place : Place) (stop : List (RingId × ℕ)) → place ≡ place_of q →
+    Stopped m maps old at q stop → value_at place.inst (map_at maps at) ≡ None → Waits m maps old place.ring stop
+waits m maps old at q place stop there is bare =
     let inst : place.inst ≡ q.1 = ap (λ (p : Place). p.inst) there in
-    subst (λ (ms : List (List (ℕ × Value))). Waits m ms old place.ring stop) same (record {
+    record {
       passes = is.passes;
       next = ap (λ (x : RingId × ℕ). x.0) is.next ∙ sym (ap (λ (p : Place). p.ring) there);
       bare = ap (λ (x : RingId × ℕ). learned_at (rings_of old) maps x) is.next ∙ is.learned ∙ (ap (λ (i : ℕ). value_at i (map_at maps at)) (sym inst) ∙ bare);
-    })
+    }
 
 -- a batch is learned at the place
-pub finds : (m : ℕ → ℕ) (maps all : List (List (ℕ × Value))) (old : List (RingId × ℕ)) (at : ℕ) (q : RingId × ℕ) (place : Place) (run : Run) (stop : List (RingId × ℕ)) → maps ≡ all → place ≡ place_of q →
-    Stopped m maps old at q stop → IsRunOf (map_at maps at) place.inst run → not run.skip ≡ true → (value_at place.inst (map_at maps at) ≡ None → true ≡ false) → FindsBatch m all old place stop
-finds m maps all old at q place run stop same there is looked skip some =
+finds : (m : ℕ → ℕ) (maps : List (List (ℕ × Value))) (old : List (RingId × ℕ)) (at : ℕ) (q : RingId × ℕ) (place : Place) (run : Run) (stop : List (RingId × ℕ)) → place ≡ place_of q →
+    Stopped m maps old at q stop → IsRunOf (map_at maps at) place.inst run → run.skip ≡ false → (value_at place.inst (map_at maps at) ≡ None → ⊥) → FindsBatch m maps old place stop
+finds m maps old at q place run stop there is looked skip some =
     let inst : place.inst ≡ q.1 = ap (λ (p : Place). p.inst) there in
     let held : Option Value = value_at place.inst (map_at maps at) in
-    let found : (batch : List ℕ) × (held ≡ Some (Batch batch)) = batch_of held (λ e. true≢false (some e)) (λ e. no run.skip skip (looked.skip.1 e)) in
-    subst (λ (ms : List (List (ℕ × Value))). FindsBatch m ms old place stop) same (record {
+    let found : (batch : List ℕ) × (held ≡ Some (Batch batch)) = batch_of held some (λ e. true≢false (sym (looked.skip.1 e) ∙ skip)) in
+    record {
       passes = is.passes;
       next = ap place_of is.next ∙ sym there;
       batch = found.0;
       holds = ap (λ (x : RingId × ℕ). learned_at (rings_of old) maps x) is.next ∙ is.learned ∙ (ap (λ (i : ℕ). value_at i (map_at maps at)) (sym inst) ∙ found.1);
-    })
-  where
-    no : (t : Bool) → not t ≡ true → IsTrue t → ⊥
-    no true e h = true≢false (sym e)
-    no false e h = true≢false (sym h)
+    }
 
-pub next_room : (m : ℕ → ℕ) (maps : List (List (ℕ × Value))) (old : List (RingId × ℕ)) (at : ℕ) (q : RingId × ℕ) (place : Place) (run : Run) (stop : List (RingId × ℕ)) → place ≡ place_of q →
+next_room : (m : ℕ → ℕ) (maps : List (List (ℕ × Value))) (old : List (RingId × ℕ)) (at : ℕ) (q : RingId × ℕ) (place : Place) (run : Run) (stop : List (RingId × ℕ)) → place ≡ place_of q →
     Stopped m maps old at q stop → IsRunOf (map_at maps at) place.inst run → (next_place m stop).1 < 2 ^ 40
 next_room m maps old at q place run stop there is looked =
     let inst : place.inst ≡ q.1 = ap (λ (p : Place). p.inst) there in
@@ -366,3 +383,20 @@ next_room m maps old at q place run stop there is looked =
     let ends = looked.ends in
     let within = looked.within in
     omega arith
+
+-- the look says where the merge stops
+pub stops : (m : ℕ → ℕ) (maps all : List (List (ℕ × Value))) (old : List (RingId × ℕ)) (at : ℕ) (q : RingId × ℕ) (place : Place) (o : Option Run) (next : Next) (stop : List (RingId × ℕ)) → maps ≡ all → place ≡ place_of q →
+    Stopped m maps old at q stop → Looked (map_at maps at) place.inst o → found_at place o ≡ Err next → Stops m all old next stop × HasRoom m next stop
+stops m maps all old at q place None next stop same there is looked found =
+    let comes : Wait place.ring ≡ next = cc in
+    let held : Stops m maps old (Wait place.ring) stop × HasRoom m (Wait place.ring) stop = (waits m maps old at q place stop there is (looked.none.0 refl), tt) in
+    subst (λ (n : Next). Stops m all old n stop × HasRoom m n stop) comes (subst (λ (ms : List (List (ℕ × Value))). Stops m ms old (Wait place.ring) stop × HasRoom m (Wait place.ring) stop) same held)
+stops m maps all old at q place (Some run) next stop same there is looked found = by run.skip refl found
+  where
+    by : (t : Bool) → run.skip ≡ t → (if t then on_to place run else a_batch place) ≡ Err next → Stops m all old next stop × HasRoom m next stop
+    by true skip e = absurd (cc)
+    by false skip e =
+        let comes : Deliver place ≡ next = cc in
+        let held : Stops m maps old (Deliver place) stop × HasRoom m (Deliver place) stop =
+        (finds m maps old at q place run stop there is looked.run skip (λ none. true≢false (looked.none.1 none)), next_room m maps old at q place run stop there is looked.run) in
+        subst (λ (n : Next). Stops m all old n stop × HasRoom m n stop) comes (subst (λ (ms : List (List (ℕ × Value))). Stops m ms old (Deliver place) stop × HasRoom m (Deliver place) stop) same held)

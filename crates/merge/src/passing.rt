@@ -6,9 +6,10 @@ ghost use Rattle.mrp_types.specs.Places.{place_lt};
 ghost use Rattle.mrp_types.specs.Moves.{place_of, next_place, rings_of, is_valid_tuple};
 ghost use Rattle.plain_model.specs.Tuples.{count_before, tuple_at};
 ghost use Rattle.merge.specs.Merged.{Stops, HasRoom};
+ghost use Rattle.merge.specs.Looked.{found_at};
 ghost use Rattle.merge.specs.Ahead.{AreSized, AreLate};
 
-use crate::Runs;
+use crate::{Run, Runs};
 use mrp_types::{Inst, Place, RingId, RoundSizes, place_before};
 
 /// What a merge comes to.
@@ -77,6 +78,17 @@ fn settle(m: &RoundSizes, pairs: &mut [(RingId, Inst)], place: Place)
     }
 }
 
+/// Where a ring goes on behind the run of skips at the next place, or what the merge comes to there.
+fn found(place: Place, run: Option<Run>) -> Result<(RingId, Inst), Next>
+    ensures { result ≡ found_at place run }
+{
+    match run {
+        None => Err(Next::Wait(place.ring)),
+        Some(run) if run.skip => Ok((place.ring, run.end)),
+        Some(_) => Err(Next::Deliver(place)),
+    }
+}
+
 /// Passes the skips from a tuple on, up to the first place that isn't one. A turn looks at the earliest of the places at
 /// which the rings go on, and passes the whole run that it finds there: none of its other places needs a look. Behind a
 /// run of skips there is none, so each ring is passed once, and the looks are one more than the rings at most.
@@ -95,14 +107,12 @@ pub fn pass<R: Runs>(m: &RoundSizes, ahead: &mut [(RingId, Inst)], runs: &mut R)
     'turns: loop {
         let at = earliest(m, ahead);
         let place = as_place(ahead[at]);
-        let Some(run) = runs.look(at as u8, place.inst) else {
-            settle(m, ahead, place);
-            return Next::Wait(place.ring);
-        };
-        if !run.skip {
-            settle(m, ahead, place);
-            return Next::Deliver(place);
+        match found(place, runs.look(at as u8, place.inst)) {
+            Ok(pair) => ahead[at] = pair,
+            Err(next) => {
+                settle(m, ahead, place);
+                return next;
+            }
         }
-        ahead[at] = (place.ring, run.end);
     }
 }
