@@ -1,0 +1,6 @@
+mod LookLemmas
+mod Sized
+mod Skips
+mod Turns
+mod Settled
+mod Stepping

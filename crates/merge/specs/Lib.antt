@@ -1,0 +1,5 @@
+pub mod Merged
+pub mod Looked
+pub mod Learned
+pub mod Ahead
+pub mod Steps
