@@ -82,7 +82,7 @@ route_is nodes rings [] each = refl
 route_is nodes rings (p ∷ []) each = (refl, has_is_among p.rings p.home.0 ∙ each.0.home)
 route_is nodes rings (p ∷ q ∷ ps) each = several nodes rings p q ps each.0 (common (q ∷ ps) p.rings) (common_finds (q ∷ ps) 0 p.rings each.0.increase)
 
-concerned_are : (nodes rings : List ℕ) (command : Command) (ps : List PartitionTable) → AllByRecursion (IsPartition nodes rings) ps → AllByRecursion (IsPartition nodes rings) (concerned_of command ps)
+pub concerned_are : (nodes rings : List ℕ) (command : Command) (ps : List PartitionTable) → AllByRecursion (IsPartition nodes rings) ps → AllByRecursion (IsPartition nodes rings) (concerned_of command ps)
 concerned_are nodes rings command [] each = tt
 concerned_are nodes rings command (p ∷ ps) each = by_test (is_concerned command p) (concerned_are nodes rings command ps each.1)
   where
