@@ -1,0 +1,11 @@
+pub mod Advancing
+pub mod Batching
+pub mod Choosing
+pub mod Counting
+pub mod Covering
+pub mod Offering
+pub mod OthersAsked
+pub mod Reporting
+pub mod Rows
+pub mod Starting
+pub mod Waiting
