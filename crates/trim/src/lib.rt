@@ -1,0 +1,11 @@
+//! A round by which the leader of a ring finds out what may be trimmed: each subscribed partition has to answer by a quorum of its
+//! own, and the least of all answers may go.
+//!
+//! `specs/Rounds.antt` says for which rounds of `protocol` a round of this crate stands. It keeps who has answered and the least
+//! answer, and takes no memory.
+#![tactic(auto)]
+
+mod round;
+mod subscribers;
+
+pub use round::TrimRound;
