@@ -1,11 +1,11 @@
 -- Laws of the tuple of a place, where the rounds of its rings hold something.
-use Rattle.std.proofs.Common.{arith, ◌≡◌, ◌<◌, ◌≤◌, ◌⊎◌, inl, inr, ℕ, ◌+◌, ◌*◌, ◌/◌, ◌==◌, nat_lt, Bool, true, false, if◌then◌else◌, IsTrue, List, [], ◌∷◌, map, refl, sym, ap, subst, true≢false}
+use Rattle.std.proofs.Common.{arith, ◌≡◌, ◌<◌, ◌≤◌, ◌⊎◌, inl, inr, ℕ, ◌+◌, ◌*◌, ◌/◌, ◌==◌, nat_lt, Bool, true, false, if◌then◌else◌, IsTrue, List, [], ◌∷◌, refl, sym, ap, subst}
 use Rattle.mrp_types.specs.declared.id.RingId.{RingId}
 use Rattle.mrp_types.specs.declared.place.Place.{Place}
 use Rattle.mrp_types.specs.Places.{place_lt}
 use Rattle.mrp_types.specs.Moves.{place_of, next_place, is_at_or_after, is_valid_tuple, has_rings, rings_of, IsOneOf, IsBelow, IsNotBelow}
 use Rattle.mrp_types.proofs.PlaceOrder.{in_one_order}
-use Rattle.mrp_types.proofs.TupleOrder.{before_not, front_is_valid, valid_is_front, next_is_one, none_before_next, not_below_by, not_before, same_number, other_number}
+use Rattle.mrp_types.proofs.TupleOrder.{before_not, front_is_valid, valid_is_front, next_is_one, none_before_next, not_below_by, other_number}
 use Rattle.mrp_types.proofs.TupleMoves.{by_number}
 use Rattle.mrp_types.proofs.TupleChain.{Apart, or_apart}
 use Rattle.plain_model.specs.Tuples.{count_before, tuple_at}

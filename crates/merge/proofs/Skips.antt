@@ -1,6 +1,6 @@
 -- From one tuple up to a later one each place is a skip.
-use Rattle.std.proofs.Common.{arith, ◌≡◌, ◌<◌, ◌≤◌, ◌⊎◌, inl, inr, ℕ, zero, suc, ◌+◌, ◌-◌, ◌==◌, ◌&&◌, nat_le, Bool, true, false, if◌then◌else◌, IsTrue, List, [], ◌∷◌, refl, sym, ap, subst, true≢false, ◌∙◌}
-use Rattle.std.specs.Prelude.{Option, Some, None}
+use Rattle.std.proofs.Common.{arith, ◌≡◌, ◌<◌, ◌≤◌, inl, inr, ℕ, zero, suc, ◌+◌, ◌-◌, ◌==◌, nat_le, Bool, true, false, if◌then◌else◌, List, [], ◌∷◌, refl, sym, ap, subst, true≢false}
+use Rattle.std.specs.Prelude.{Some}
 use Rattle.mrp_types.specs.declared.id.RingId.{RingId}
 use Rattle.mrp_types.specs.declared.value.Value.{Value}
 use Rattle.mrp_types.specs.declared.value.Value.TheVariants.{Skip}
@@ -8,7 +8,7 @@ use Rattle.mrp_types.specs.Rings.{IncreasesFrom, numbers_of_rings}
 use Rattle.mrp_types.specs.Moves.{next_place, moved_past, past, past_many, is_at_or_after, is_valid_tuple, has_rings, is_tuple_of, count_below, rings_of, IsOneOf}
 use Rattle.mrp_types.proofs.TupleOrder.{split_and, both_true, same_number, other_number, next_is_one}
 use Rattle.mrp_types.proofs.TupleChain.{is_le, le_is, reaches_chain}
-use Rattle.mrp_types.proofs.TupleMoves.{Rises, rises_of, has_moved, has_past, has_many, rings_moved}
+use Rattle.mrp_types.proofs.TupleMoves.{Rises, rises_of, has_past, has_many, rings_moved}
 use Rattle.tuple_laws.proofs.Below.{later-reached}
 use Rattle.range_map.specs.Entries.{value_at}
 use Rattle.merge.specs.Merged.{learned_at, PassesSkips}

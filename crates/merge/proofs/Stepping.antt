@@ -1,5 +1,5 @@
 -- The step takes place after place.
-use Rattle.std.proofs.Common.{arith, ◌≡◌, ◌<◌, ◌⊎◌, inl, inr, ℕ, zero, suc, ◌+◌, ◌==◌, Bool, true, false, if◌then◌else◌, List, [], ◌∷◌, refl, sym, ap, subst, true≢false, ◌∙◌}
+use Rattle.std.proofs.Common.{arith, ◌≡◌, ◌<◌, inl, inr, ℕ, zero, suc, ◌+◌, ◌==◌, Bool, true, false, if◌then◌else◌, List, [], ◌∷◌, refl, sym, ap, subst, ◌∙◌}
 use Rattle.std.specs.Prelude.{Option, Some, None}
 use Rattle.std.proofs.lemmas.Bool.{cases_order}
 use Rattle.mrp_types.specs.declared.id.RingId.{RingId}
@@ -9,12 +9,12 @@ use Rattle.mrp_types.specs.declared.value.Value.TheVariants.{Skip, Batch}
 use Rattle.mrp_types.specs.Moves.{place_of, next_place, past, past_many, rings_of}
 use Rattle.mrp_config.specs.Config.{Config, has_ring}
 use Rattle.plain_model.specs.Tuples.{round_sizes}
-use Rattle.protocol.specs.Node.{StepSoFar, View, Service, Ready, Standing, with_stage}
+use Rattle.protocol.specs.Node.{StepSoFar, View, Service, Ready, Standing}
 use Rattle.protocol.specs.Merging.{value_at_place, merges_place, merges_up_to, delivers}
 use Rattle.range_map.specs.Entries.{value_at}
 use Rattle.merge.specs.declared.passing.Next.{Next}
 use Rattle.merge.specs.declared.passing.Next.TheVariants.{Deliver, Wait}
-use Rattle.merge.specs.Merged.{learned_at, PassesSkips, FindsBatch, Delivers, Waits, Merges}
+use Rattle.merge.specs.Merged.{learned_at, PassesSkips, FindsBatch, Waits, Merges}
 use Rattle.merge.specs.Steps.{Agree, stands_at}
 
 -- ---- of one ring's maps

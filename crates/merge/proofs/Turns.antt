@@ -1,5 +1,5 @@
 -- The turns of a merge: what is known ahead of its tuple, and where it stops.
-use Rattle.std.proofs.Common.{arith, ◌≡◌, ◌<◌, ◌≤◌, ◌⊎◌, ◌↔◌, inl, inr, ℕ, zero, suc, ◌+◌, ◌-◌, ◌*◌, ◌^◌, ◌==◌, nat_lt, Bool, true, false, if◌then◌else◌, IsTrue, List, [], ◌∷◌, length, slice_index_or, slice_set, refl, sym, ap, subst, true≢false, ◌∙◌}
+use Rattle.std.proofs.Common.{arith, ◌≡◌, ◌<◌, ◌≤◌, ◌↔◌, inl, inr, ℕ, zero, suc, ◌+◌, ◌-◌, ◌^◌, ◌==◌, nat_lt, Bool, true, false, if◌then◌else◌, IsTrue, List, [], ◌∷◌, length, slice_index_or, slice_set, refl, sym, ap, subst, true≢false, ◌∙◌}
 use Rattle.std.specs.Prelude.{◌≢◌, Option, Some, None, IsNone, IfSome, Result, Ok, Err}
 use Rattle.std.proofs.Math.Path.{ap₂}
 use Rattle.std.proofs.lemmas.Bool.{cases_lt}
@@ -10,7 +10,7 @@ use Rattle.mrp_types.specs.declared.value.Value.TheVariants.{Skip, Batch}
 use Rattle.mrp_types.specs.Places.{place_lt}
 use Rattle.mrp_types.specs.Rings.{IncreasesFrom, numbers_of_rings}
 use Rattle.mrp_types.specs.Tuples.{AreNexts, IsTuple}
-use Rattle.mrp_types.specs.Moves.{place_of, next_place, is_at_or_after, is_valid_tuple, has_rings, is_tuple_of, rings_of, IsOneOf, IsNotBelow}
+use Rattle.mrp_types.specs.Moves.{place_of, next_place, is_valid_tuple, has_rings, rings_of, IsOneOf, IsNotBelow}
 use Rattle.mrp_types.proofs.TupleOrder.{both_true, none_before_next, same_number, other_number}
 use Rattle.mrp_types.proofs.TupleMoves.{itself, has_itself}
 use Rattle.plain_model.specs.Tuples.{count_before, tuple_at}

@@ -1,6 +1,6 @@
 -- How a merge passes what was learned: place after place in the one order of the places of its rings. It stops behind the first
 -- batch, or at the first place that isn't learned.
-use Rattle.std.specs.Prelude.{ℕ, zero, suc, ◌+◌, ◌-◌, ◌<◌, ◌^◌, ◌≡◌, ◌==◌, Bool, true, false, not, if◌then◌else◌, bytes_eq, List, [], ◌∷◌, Option, Some, None}
+use Rattle.std.specs.Prelude.{ℕ, zero, suc, ◌+◌, ◌-◌, ◌<◌, ◌^◌, ◌≡◌, ◌==◌, Bool, true, false, not, if◌then◌else◌, bytes_eq, List, ◌∷◌, Option, Some, None}
 use Rattle.mrp_types.specs.declared.id.RingId.{RingId}
 use Rattle.mrp_types.specs.declared.place.Place.{Place}
 use Rattle.mrp_types.specs.declared.value.Value.{Value}

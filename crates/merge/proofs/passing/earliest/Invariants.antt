@@ -1,4 +1,4 @@
-use Rattle.std.proofs.Common.{◌≡◌, ◌<◌, ◌≤◌, length, slice_index_or, drop}
+use Rattle.std.proofs.Common.{◌≡◌, ◌<◌, length, slice_index_or, drop}
 use Rattle.mrp_types.specs.Rounds.{size_of}
 use Rattle.mrp_types.specs.Moves.{next_place}
 use Rattle.merge.proofs.Turns.{none}

@@ -1,10 +1,9 @@
-use Rattle.std.proofs.Common.{arith, rules, refl, ◌≡◌, ◌≤◌, ◌+◌, ℕ, List, length, slice_index_or, slice_set, sym, subst, ap, ◌∙◌}
-use Rattle.mrp_types.specs.declared.id.RingId.{RingId}
+use Rattle.std.proofs.Common.{arith, rules, ◌≡◌, ℕ, List, slice_index_or, slice_set, sym, subst, ap, ◌∙◌}
 use Rattle.mrp_types.specs.declared.place.Place.{Place}
 use Rattle.mrp_types.specs.declared.value.Value.{Value}
 use Rattle.mrp_types.specs.Moves.{place_of, next_place}
 use Rattle.mrp_types.specs.Rounds.{size_of}
-use Rattle.merge.specs.Ahead.{AreAhead, AreLate, count_ahead}
+use Rattle.merge.specs.Ahead.{AreAhead, AreLate}
 use Rattle.merge.proofs.Turns.{none, starts, count_same, count_most, ahead_at, late, stopped, turn, fewer_left, stops}
 use Rattle.merge.proofs.passing.pass.Goals as goal
 

@@ -1,12 +1,9 @@
-use Rattle.std.proofs.Common.{arith, ◌≡◌, ◌≤◌, ◌<◌, ◌+◌, ◌^◌, ℕ, List, length, slice_index_or, sym, subst, ap, ◌∙◌, inl, inr, add-one}
+use Rattle.std.proofs.Common.{arith, ◌≡◌, ◌≤◌, ℕ, List, slice_index_or, subst, ap, ◌∙◌, inl, inr, add-one}
 use Rattle.std.proofs.lemmas.Bool.{cases_lt}
 use Rattle.mrp_types.specs.declared.id.RingId.{RingId}
-use Rattle.mrp_types.specs.Places.{place_lt}
-use Rattle.mrp_types.specs.Moves.{place_of, rings_of}
 use Rattle.mrp_types.specs.Rounds.{size_of}
-use Rattle.plain_model.specs.Tuples.{count_before}
 use Rattle.merge.proofs.Turns.{none}
-use Rattle.merge.proofs.Settled.{settled_front, front_length, front_at, front_more, front_all, late_at, sized_all}
+use Rattle.merge.proofs.Settled.{front_length, front_at, front_more, front_all, late_at, sized_all}
 use Rattle.merge.proofs.passing.settle.Goals as goal
 
 pub entry_before-requires-clause-late : goal.entry_before-requires-clause-late
