@@ -54,12 +54,6 @@ pub enum SubmitFault {
     Memory,
 }
 
-impl From<Memory> for SubmitFault {
-    fn from(_memory: Memory) -> SubmitFault {
-        SubmitFault::Memory
-    }
-}
-
 /// The coordinator of a ring: Idle, or Active with a ballot. A coordinator is for one ring, one own node and the same
 /// acceptors at each call.
 #[derive(Drop)]
