@@ -1,6 +1,6 @@
 -- The step of an entry, from what the parts of a replica do.
-use Rattle.std.proofs.Common.{arith, ◌≡◌, ℕ, ◌+◌, ◌-◌, ◌≤◌, ◌<◌, nat_lt, nat_le, Bool, true, false, if◌then◌else◌, List, [], ◌∷◌, ◌++◌, length, map, Option, Some, None, Result, Ok, Err, refl, sym, ◌∙◌, ap, subst, IsTrue, true≢false, length-append, append_assoc}
-use Rattle.std.specs.Prelude.{◌==◌, IfOk, OnOk, ◌||◌, ◌&&◌, option_map}
+use Rattle.std.proofs.Common.{arith, ◌≡◌, ℕ, ◌+◌, ◌≤◌, nat_lt, nat_le, Bool, true, false, if◌then◌else◌, List, [], ◌∷◌, ◌++◌, map, Option, Some, None, Result, Ok, Err, refl, sym, ◌∙◌, ap, subst, IsTrue, true≢false, length-append}
+use Rattle.std.specs.Prelude.{◌==◌, IfOk, OnOk, ◌||◌, ◌&&◌}
 use Rattle.std.proofs.lemmas.Bool.{ltb-false}
 use Rattle.std.proofs.lemmas.Bool.Decides.{nat_tests}
 use Rattle.mrp_types.specs.declared.memory.Memory.{Memory}
@@ -14,12 +14,11 @@ use Rattle.command_codec.specs.declared.reply.Reply.{Reply}
 use Rattle.command_codec.specs.declared.reply.Reply.TheVariants as replies
 use Rattle.command_codec.specs.declared.reply.TableEntry.{TableEntry}
 use Rattle.command_codec.specs.Grammar.{command_of, reply_of}
-use Rattle.command_codec.specs.Replies.{reply_bytes}
 use Rattle.mrp_config.specs.declared.tables.PartitionTable.{PartitionTable}
 use Rattle.mrp_config.specs.Config.{has_log}
 use Rattle.mrp_config.specs.Routing.{is_concerned, has_some}
 use Rattle.plain_model.specs.Fold.{concerning}
-use Rattle.plain_model.specs.Replicas.{Session, LogState, Replica, Applied, Effect, effect_of, told, where_room, has_no_room, is_one_too_long, services_size, session_at, apply, judged, numbered, taken, passed_over, given_again, empty_log, read_at, log_at, value_or_absent, value_of, page_of, scanned}
+use Rattle.plain_model.specs.Replicas.{Session, LogState, Replica, Applied, Effect, effect_of, told, where_room, has_no_room, is_one_too_long, services_size, session_at, apply, judged, numbered, taken, passed_over, empty_log, read_at, log_at, value_or_absent, value_of, page_of, scanned}
 use Rattle.plain_model.specs.StateBytes.{whole_state, state_bytes, sessions_bytes, logs_bytes, table_bytes, was_reply}
 use Rattle.plain_model.proofs.SizeLaws.{services-written}
 use Rattle.plain_model.proofs.FoldLogs.{same_id}
@@ -39,7 +38,7 @@ use Rattle.std.specs.List.{find, AllByRecursion}
 use Rattle.command_codec.specs.Valid.{rises_from}
 use Rattle.replica_state.specs.declared.parts.Turn.{Turn}
 use Rattle.replica_state.specs.Turns.{IsTurn}
-use Rattle.services.specs.Parts.{Part, Logs, Table, ids_of, is_for, effect_on, growth_of, part_size}
+use Rattle.services.specs.Parts.{Logs, Table, ids_of, is_for, effect_on, growth_of, part_size}
 use Rattle.services.proofs.PartLaws.{keeps_logs, keeps_table, logs_decide, table_decides}
 use Rattle.replica_state.specs.Held.{Held, IsHeld, no_room, part_after, reply_after, is_on_logs, part_of, is_look, replica_with}
 use Rattle.replica_state.specs.declared.sessions.Kept.{Kept}

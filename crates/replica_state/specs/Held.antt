@@ -1,13 +1,12 @@
 -- What a replica is seen as: its partition, and what it keeps.
-use Rattle.std.specs.Prelude.{ℕ, ◌+◌, ◌≡◌, nat_lt, if◌then◌else◌, Bool, true, false, IsTrue, List, [], ◌∷◌, map, Option, Some, None}
-use Rattle.mrp_types.specs.declared.id.ClientId.{ClientId}
+use Rattle.std.specs.Prelude.{ℕ, ◌+◌, nat_lt, if◌then◌else◌, Bool, true, false, IsTrue, List, map}
 use Rattle.command_codec.specs.declared.command.Command.{Command}
 use Rattle.command_codec.specs.declared.command.Command.TheVariants.{Append, Multi, ReadLog, TrimLog, Get, Scan}
 use Rattle.command_codec.specs.declared.reply.TableEntry.{TableEntry}
 use Rattle.command_codec.specs.declared.reply.Reply.{Reply}
 use Rattle.command_codec.specs.declared.reply.Reply.TheVariants.{Limit}
 use Rattle.mrp_config.specs.declared.tables.PartitionTable.{PartitionTable}
-use Rattle.plain_model.specs.Replicas.{Session, LogState, Replica, Applied, numbered, session_at, passed_over, taken}
+use Rattle.plain_model.specs.Replicas.{Session, LogState, Replica}
 use Rattle.command_codec.specs.Valid.{rises_from}
 use Rattle.state_laws.specs.States.{HasFewLogs, IsState}
 use Rattle.services.specs.Parts.{Part, Logs, Table, effect_on, after, growth_of}

@@ -1,5 +1,5 @@
-use Rattle.std.proofs.Common.{arith, ap, ◌∙◌, ℕ, ◌+◌, ◌≡◌}
-use Rattle.services.specs.Parts.{Logs, Table, part_size}
+use Rattle.std.proofs.Common.{arith, ap, ◌∙◌, ℕ, ◌+◌}
+use Rattle.services.specs.Parts.{Logs, part_size}
 use Rattle.replica_state.proofs.ApplyLaws.{has_room, is_for_logs, is_for_table, logs_new, logs_same, logs_reply, table_new, table_same, table_reply}
 use Rattle.replica_state.proofs.parts.take_command.Goals as goal
 

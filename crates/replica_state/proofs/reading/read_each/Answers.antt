@@ -1,4 +1,3 @@
-use Rattle.std.proofs.Common.{◌∙◌}
 use Rattle.plain_model.specs.StateBytes.{session_at_least, after_client}
 use Rattle.command_codec.proofs.Loops.{goes_on}
 use Rattle.replica_state.specs.Held.{session_of, sessions_in}

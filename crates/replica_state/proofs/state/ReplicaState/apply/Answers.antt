@@ -1,6 +1,5 @@
-use Rattle.std.proofs.Common.{arith, ◌∙◌, ◌≡◌, sym, ap, refl, Option, List, ℕ}
-use Rattle.plain_model.specs.Replicas.{Applied, passed_over, taken}
-use Rattle.replica_state.specs.Held.{Held}
+use Rattle.std.proofs.Common.{◌∙◌, sym, ap, refl}
+use Rattle.plain_model.specs.Replicas.{Applied}
 use Rattle.replica_state.specs.declared.parts.Turn.TheVariants.{Take, Again, Pass}
 use Rattle.replica_state.proofs.ApplyLaws.{passes, kept_state, by_turn, held}
 use Rattle.replica_state.proofs.state.ReplicaState.apply.Goals as goal

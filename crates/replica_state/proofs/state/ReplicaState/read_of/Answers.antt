@@ -1,5 +1,4 @@
 use Rattle.std.proofs.Common.{arith}
-use Rattle.services.proofs.StateLaws.{ends_by}
 use Rattle.replica_state.proofs.ApplyLaws.{read_held}
 use Rattle.replica_state.proofs.state.ReplicaState.read_of.Goals as goal
 
