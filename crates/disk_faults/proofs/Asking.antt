@@ -1,5 +1,5 @@
 -- What a client prints says of no node that it went down.
-use Rattle.std.proofs.Common.{ℕ, ◌==◌, ◌%◌, ◌+◌, ◌^◌, nat_lt, Bool, true, false, ◌&&◌, List, [], ◌∷◌, Option, Some, None, Result, Ok, Err}
+use Rattle.std.proofs.Common.{ℕ, ◌==◌, ◌%◌, ◌+◌, ◌^◌, nat_lt, Bool, true, false, ◌&&◌, List, Option, Some, None, Result, Ok, Err}
 use Rattle.std.specs.Prelude.{not, if◌then◌else◌}
 use Rattle.mrp_types.specs.declared.id.PartitionId.{PartitionId}
 use Rattle.mrp_types.specs.declared.id.RingId.{RingId}

@@ -1,5 +1,5 @@
 -- Where no fault is set at a node, its plan stays without one, and no line says that its disk failed.
-use Rattle.std.proofs.Common.{◌≡◌, ◌⊎◌, inl, inr, ℕ, zero, suc, ◌+◌, ◌<◌, ◌^◌, ◌==◌, Bool, true, false, true≢false, ◌||◌, cond, List, [], ◌∷◌, ◌++◌, length, map, Option, Some, None, Result, Ok, Err, refl, sym, ap, ◌∙◌, subst, arith}
+use Rattle.std.proofs.Common.{◌≡◌, inl, inr, ℕ, zero, suc, ◌+◌, ◌==◌, Bool, true, false, true≢false, ◌||◌, cond, List, [], ◌∷◌, ◌++◌, length, map, Option, Some, None, Result, Ok, Err, refl, sym, ap, ◌∙◌, subst, arith}
 use Rattle.std.specs.Prelude.{slice_get}
 use Rattle.std.proofs.lemmas.Bool.Decides.{nat_tests}
 use Rattle.std.specs.List.{AllByRecursion, list_any}
@@ -17,7 +17,7 @@ use Rattle.disk_model.specs.declared.plan.Plan.{Plan}
 use Rattle.disk_model.specs.Calls.{Told, IsImage, reads}
 use Rattle.disk_model.specs.Crash.{left_by}
 use Rattle.disk_model.specs.Sim.{Sim}
-use Rattle.disk_model.specs.Running.{Op, Ran, ran, changes_in}
+use Rattle.disk_model.specs.Running.{Ran, ran, changes_in}
 use Rattle.quorums.specs.Groups.{Has}
 use Rattle.quorums.proofs.Each.{mapped, appended}
 use Rattle.protocol.specs.Lines.{Line, Cause, Crash, Disk, Full, Down as WentDown}
@@ -28,13 +28,13 @@ use Rattle.protocol.specs.Opening.{opened}
 use Rattle.protocol.specs.Step.{step}
 use Rattle.bare_world.specs.Worlds as bare
 use Rattle.bare_world.specs.Runs.{MayRun}
-use Rattle.world_model.specs.Disks.{cause_of, settled, no_plan, with_fuse, with_fail, with_fail_read, with_plan, restarted}
+use Rattle.world_model.specs.Disks.{cause_of, settled, no_plan, with_fuse, with_fail, with_fail_read, restarted}
 use Rattle.world_model.specs.Events.{ScheduleEvent}
 use Rattle.world_model.specs.Events as event
 use Rattle.world_model.specs.Opening.{Opening, Kept, opening}
 use Rattle.world_model.specs.Runs.{Happening, Scheduled, Returns, MayReturn, MayBeScheduled, MayHappen, outcome_of, ran_from, run_of}
 use Rattle.world_model.specs.Runs as disks
-use Rattle.world_model.specs.Worlds.{Host, Up, Down, World, Outcome, quiet, prints, and_then, for_each, node_at, with_node, with_client, sends, goes_down, after_step, worked, unless_full, stepped_as, steps_as, steps, opened_as, opened_where, opens_by, opens, client_step, client_gets, delivers_to, delivers, moves_on, flows, loses, lists, client_asks, client_step_tick, ticks_client, crashes, comes_back, with_faults, faults_at, faults, ticks_all, state_of_host, id_of_node, id_of_client, client_at, happens, opens_first, nothing, started, empty_disk}
+use Rattle.world_model.specs.Worlds.{Host, Up, Down, World, Outcome, quiet, and_then, for_each, node_at, with_node, with_client, sends, goes_down, after_step, worked, unless_full, steps_as, steps, opened_as, opened_where, opens, client_step, client_gets, delivers_to, delivers, moves_on, flows, loses, lists, client_asks, client_step_tick, ticks_client, crashes, comes_back, with_faults, faults_at, faults, state_of_host, id_of_node, id_of_client, client_at, happens, opens_first, nothing, started, empty_disk}
 use Rattle.world_model.specs.Trace.{trace}
 use Rattle.world_model.proofs.Scheduled.{may_be, may_run, trace_is}
 use Rattle.disk_states.proofs.Opening.{opening_full}

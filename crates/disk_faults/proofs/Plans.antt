@@ -1,5 +1,5 @@
 -- Operations under a plan without such a fault stop by a fuse alone.
-use Rattle.std.proofs.Common.{◌≡◌, Bool, true, false, ◌||◌, List, [], ◌∷◌, Option, None, refl, sym, ap, ◌∙◌}
+use Rattle.std.proofs.Common.{◌≡◌, Bool, true, false, ◌||◌, List, [], ◌∷◌, None, refl, sym, ap}
 use Rattle.disk_model.specs.declared.plan.Plan.{Plan}
 use Rattle.disk_model.specs.Causes.{falls, passed, spent}
 use Rattle.disk_model.specs.Sim.{Sim}

@@ -1,7 +1,6 @@
 -- What a rule of a ring prints says of no node that it went down.
-use Rattle.std.proofs.Common.{ℕ, zero, suc, ◌==◌, ◌^◌, nat_lt, ◌&&◌, length, Bool, true, false, List, [], ◌∷◌, ◌++◌, Option, Some, None}
+use Rattle.std.proofs.Common.{ℕ, zero, suc, ◌==◌, ◌^◌, nat_lt, ◌&&◌, length, List, [], ◌∷◌, Option, Some, None}
 use Rattle.std.specs.Prelude.{if◌then◌else◌, nat_le, not}
-use Rattle.std.specs.List.{AllByRecursion}
 use Rattle.mrp_types.specs.declared.id.NodeId.{NodeId}
 use Rattle.mrp_types.specs.declared.id.ClientId.{ClientId}
 use Rattle.mrp_types.specs.declared.value.Value.{Value}
@@ -14,17 +13,17 @@ use Rattle.quorums.proofs.Each.{appended}
 use Rattle.frames.specs.declared.body.Body.TheVariants.{AskSafe}
 use Rattle.range_map.specs.Entries.{entries_from}
 use Rattle.skip_leveller.specs.Levelling.{answer_of}
-use Rattle.protocol.specs.Lines.{Line, Trim, BallotLimit, InstanceLimit}
+use Rattle.protocol.specs.Lines.{Trim, BallotLimit, InstanceLimit}
 use Rattle.protocol.specs.Parts.{Ring, Campaign, Role, Idle, Active, Part, Effects, Round}
-use Rattle.protocol.specs.Effects.{no_effects, with_part, with_line, with_frames, with_campaign}
+use Rattle.protocol.specs.Effects.{no_effects, with_line, with_frames, with_campaign}
 use Rattle.protocol.specs.Rings.{is_node, owner_of, position_of, has_bit, with_bit, by_id, replicas_of, sends_each}
-use Rattle.protocol.specs.Acceptor.{prepares, accepts, accepts_at, fetches, trims_to, votes_anew, votes_for, promises_anew, promises, decides_or_forwards, refuses, tells_promise, tells_trim, tells_ranges, ranges_page}
+use Rattle.protocol.specs.Acceptor.{prepares, accepts, accepts_at, fetches, trims_to, votes_anew, promises_anew, promises, decides_or_forwards, refuses, tells_promise, tells_trim, tells_ranges, ranges_page}
 use Rattle.protocol.specs.Ballots.{Page, reported, reported_at, campaigns, own_ballot, leads_now, greatest_seen, role_leads}
 use Rattle.protocol.specs.Coordinator.{leads, starts_at, starts_with, promised, refused, submits, submits_in, submits_leading, passes_on, waits, with_pending, is_pending, most_pending}
 use Rattle.protocol.specs.Leading.{is_to_start, starts_idle, starts_on_tick, resends, resends_in, levels, levels_in, levels_by, shortfall_from, with_tick_taken}
-use Rattle.protocol.specs.Learner.{decided, passed_on, chosen, learned_ranges}
-use Rattle.protocol.specs.Proposing.{offers, Turn, Stops, Proposes, Choice, Rests, Offers, turn_by, turn_in, turn_of, choice, proposing, proposes_after, proposes, advanced, has_room}
-use Rattle.protocol.specs.Trimming.{trimmed, trims_all, trims_above, ends_by, asks_round, answers, answers_in, least, asks, with_own_answer, next_round, with_asked, with_answer, goes_on_round}
+use Rattle.protocol.specs.Learner.{decided, chosen, learned_ranges}
+use Rattle.protocol.specs.Proposing.{offers, Turn, Stops, Proposes, Choice, Rests, Offers, turn_by, turn_in, turn_of, proposing, proposes_after, proposes, advanced, has_room}
+use Rattle.protocol.specs.Trimming.{trimmed, trims_above, ends_by, asks_round, answers, answers_in, least, asks, with_own_answer, next_round, with_asked, with_answer, goes_on_round}
 use Rattle.disk_faults.proofs.Quiet.{IsNoDown, Quiet, either}
 
 module _ (ring : Ring) where

@@ -18,7 +18,7 @@ use Rattle.protocol.specs.Parts.{Ring, Part, Effects}
 use Rattle.protocol.specs.Rings.{is_acceptor}
 use Rattle.protocol.specs.Acceptor.{prepares, accepts, fetches}
 use Rattle.protocol.specs.Ballots.{is_active}
-use Rattle.protocol.specs.Coordinator.{leads, promised, refused, submits}
+use Rattle.protocol.specs.Coordinator.{leads, refused, submits}
 use Rattle.protocol.specs.Leading.{starts_on_tick, resends, levels}
 use Rattle.protocol.specs.Learner.{decided, chosen}
 use Rattle.protocol.specs.Trimming.{trimmed, answers, asks_round}
@@ -29,7 +29,7 @@ use Rattle.protocol.specs.Node.{StepSoFar, View, RingPart, Service, Stage, Recov
 use Rattle.protocol.specs.Opening.{begins_first, opened, view_of}
 use Rattle.protocol.specs.Merging.{place_of}
 use Rattle.protocol.specs.Step.{at_member, at_acceptor, handles_trim_at, handles_trim, handles_submit, tells_safe, at_service, at_attempt, recovering, handles_body, handles_from, step}
-use Rattle.protocol.specs.Tick.{saves, saves_stage, saves_first, is_due_to_compact, compacts, rules_at, rules_for, ticks_ring, ticks_rings, fetches_at, fetches_stage, fetches_missing, asks_on_beat, recovery_ticks_at, beats_with, beats, or_compacts, ticks}
+use Rattle.protocol.specs.Tick.{saves, saves_stage, saves_first, is_due_to_compact, compacts, rules_at, rules_for, ticks_ring, ticks_rings, fetches_at, fetches_stage, fetches_missing, asks_on_beat, recovery_ticks_at, beats, or_compacts, ticks}
 use Rattle.disk_faults.proofs.Quiet.{Quiet, either_so}
 use Rattle.disk_faults.proofs.Rules.{prepares_quiet, accepts_quiet, fetches_quiet, decided_quiet, chosen_quiet, trimmed_quiet, promised_quiet, refused_quiet, leads_quiet, submits_quiet, starts_quiet, resends_quiet, levels_quiet, asks_round_quiet, answers_quiet}
 use Rattle.disk_faults.proofs.Words.{Still, begins_still, answered_still, part_still, gone_still, tells_still, recovery_still, trim_still, applies_still}

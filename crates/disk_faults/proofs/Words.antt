@@ -1,7 +1,7 @@
 -- What a step prints besides the rules of its rings, and where it learns, says of no node that it went down.
 use Rattle.std.proofs.Common.{ℕ, zero, suc, ◌+◌, ◌-◌, ◌^◌, ◌==◌, nat_lt, ◌&&◌, length, Bool, true, false, List, [], ◌∷◌, ◌++◌, map, Option, Some, None}
 use Rattle.std.specs.Prelude.{if◌then◌else◌}
-use Rattle.std.specs.List.{AllByRecursion, flat_map}
+use Rattle.std.specs.List.{flat_map}
 use Rattle.mrp_types.specs.declared.id.NodeId.{NodeId}
 use Rattle.mrp_types.specs.declared.id.RingId.{RingId}
 use Rattle.mrp_types.specs.declared.value.Value.{Value}
@@ -15,14 +15,13 @@ use Rattle.plain_model.specs.Tuples.{instances}
 use Rattle.plain_model.specs.Replicas.{Replica, AppliedAll, applies, entries_of_batch}
 use Rattle.quorums.proofs.Each.{appended}
 use Rattle.protocol.specs.Lines.{Line, Deliver, Learn, Chose, Begin, AttemptLimit, Refuse}
-use Rattle.protocol.specs.Node.{StepSoFar, RingPart, Service, Stage, Recovering, Ready, Standing, Attempt, Choice, part_at, with_part, with_stage, sends_all, prints}
-use Rattle.protocol.specs.Parts.{Ring, Part, Effects}
+use Rattle.protocol.specs.Node.{StepSoFar, RingPart, Service, Stage, Recovering, Ready, Standing, Attempt, Choice, with_stage, sends_all, prints}
+use Rattle.protocol.specs.Parts.{Ring, Effects}
 use Rattle.protocol.specs.Merging.{reply_line, delivers_applied, value_at_place, place_of, takes_place, merges_place, merges_stage, merges_service, merges_up_to, merges}
-use Rattle.protocol.specs.Recovery.{epoch_of, own_tuple, others_of, asks_checkpoint, is_of, is_of_choice, asks_missing, restores, restores_read, installs_own, asks_part, gathers, chooses, chooses_best, chooses_if_quorum, begins_next, begins, takes_answer, answered_by, restores_or_begins, with_more, part_for, takes_part, gone_for, takes_gone, tells_part, ends_attempt, ticks_attempt, recovery_ticks}
+use Rattle.protocol.specs.Recovery.{epoch_of, own_tuple, others_of, asks_checkpoint, is_of, is_of_choice, asks_missing, restores, restores_read, installs_own, asks_part, gathers, chooses, chooses_best, chooses_if_quorum, begins_next, begins, takes_answer, answered_by, restores_or_begins, with_more, part_for, takes_part, gone_for, takes_gone, tells_part, ends_attempt, recovery_ticks}
 use Rattle.protocol.specs.Step.{begins_if_waits_below, after_trim, recovers_if_trimmed}
-use Rattle.protocol.specs.Learner.{Taken, learns}
 use Rattle.protocol.specs.Proposing.{proposes}
-use Rattle.protocol.specs.Learning.{Queued, queued, with_effects, proposes_then, at_part, by_news, learns_taken, learns_one, then_learns, learns_up_to, applies_effects}
+use Rattle.protocol.specs.Learning.{Queued, queued, with_effects, proposes_then, by_news, learns_one, then_learns, learns_up_to, applies_effects}
 use Rattle.disk_faults.proofs.Quiet.{IsNoDown, Quiet, either_so}
 use Rattle.disk_faults.proofs.Rules.{proposes_quiet}
 

@@ -1,5 +1,5 @@
 -- Which happenings set a fault of a node's disk.
-use Rattle.std.specs.Prelude.{ℕ, ◌==◌, Bool, false}
+use Rattle.std.specs.Prelude.{◌==◌, Bool, false}
 use Rattle.mrp_types.specs.declared.id.NodeId.{NodeId}
 use Rattle.world_model.specs.Events.{ScheduleEvent}
 use Rattle.world_model.specs.Events as event
