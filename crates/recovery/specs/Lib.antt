@@ -1,0 +1,4 @@
+pub mod Attempts
+pub mod Kept
+pub mod Turns
+pub mod Steps
