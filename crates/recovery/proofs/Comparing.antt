@@ -1,5 +1,5 @@
 -- Tuples that are compared.
-use Rattle.std.proofs.Common.{arith, nat_le, ◌≡◌, ℕ, suc, ◌≤◌, ◌==◌, ◌&&◌, Bool, true, false, List, [], ◌∷◌, length, drop, min, refl, sym, ◌∙◌, ap}
+use Rattle.std.proofs.Common.{arith, nat_le, ◌≡◌, ℕ, suc, ◌≤◌, ◌==◌, ◌&&◌, Bool, true, false, List, [], ◌∷◌, length, drop, min, refl, ◌∙◌, ap}
 use Rattle.std.proofs.lemmas.List.{drop_all}
 use Rattle.mrp_types.specs.declared.id.RingId.{RingId}
 use Rattle.checkpoint.specs.Checkpoints.{is_same_tuple, is_after}

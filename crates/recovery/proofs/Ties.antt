@@ -8,9 +8,9 @@ use Rattle.plain_model.specs.Tuples.{round_sizes, is_tuple_of}
 use Rattle.plain_model.specs.StateBytes.{state_of}
 use Rattle.checkpoint.specs.Checkpoints.{is_after, is_same_tuple}
 use Rattle.protocol.specs.Node.{StepSoFar, View, Service, Attempt, Choice, Recovering, with_stage}
-use Rattle.protocol.specs.Recovery.{epoch_of, own_tuple, best_of, chooses, chooses_best, chooses_if_quorum, is_of, is_of_choice, answered_by, takes_part, takes_gone, takes_answer, part_for, gone_for, with_more, restores_or_begins, begins_next}
+use Rattle.protocol.specs.Recovery.{epoch_of, own_tuple, chooses, chooses_best, chooses_if_quorum, is_of_choice, answered_by, takes_part, takes_gone, with_more, restores_or_begins, begins_next}
 use Rattle.protocol.specs.Trimming.{has_answered}
-use Rattle.recovery.specs.Attempts.{Trying, fresh, best_answer, choice_by, with_answers, begun, heard, is_heard, parted, is_parted, with_part, gone, is_gone}
+use Rattle.recovery.specs.Attempts.{Trying, fresh, best_answer, with_answers, begun, heard, is_heard, parted, is_parted, with_part, gone, is_gone}
 use Rattle.recovery.specs.Steps.{StandsFor, goes_on, does, asks_all}
 use Rattle.recovery.specs.Turns.{turn_of, turn_with}
 

@@ -6,7 +6,6 @@ use Rattle.mrp_types.specs.Members.{is_member}
 use Rattle.protocol.specs.Node.{Choice}
 use Rattle.recovery.specs.declared.turns.Turn.{Turn}
 use Rattle.recovery.specs.declared.turns.Turn.TheVariants.{Ask, Wait, NoQuorum, Choose, Install, Again}
-use Rattle.recovery.specs.declared.turns.Missing.{Missing}
 use Rattle.recovery.specs.declared.turns.Missing.TheVariants.{Answers, Part}
 use Rattle.recovery.specs.Attempts.{Trying, awaits}
 

@@ -6,7 +6,7 @@ ghost use Rattle.mrp_types.specs.declared.id.NodeId.{NodeId};
 ghost use Rattle.mrp_types.specs.declared.id.RingId.{RingId};
 ghost use Rattle.mrp_config.specs.Config.{Config};
 ghost use Rattle.plain_model.specs.Tuples.{round_sizes, is_tuple_of};
-ghost use Rattle.protocol.specs.Node.{StepSoFar, Service, Attempt, Recovering};
+ghost use Rattle.protocol.specs.Node.{StepSoFar, View, Service, Attempt, Recovering};
 ghost use Rattle.protocol.specs.Recovery.{answered_by, takes_part, takes_gone, recovery_ticks, begins_next, epoch_of, own_tuple};
 ghost use Rattle.recovery.specs.Attempts.{Trying, begun, heard, is_heard, parted, is_parted, gone, is_gone, ticked};
 ghost use Rattle.recovery.specs.Steps.{StandsFor, left_of, goes_on, does_on_tick, asks_all};
@@ -50,4 +50,16 @@ pub fn a_tick_is_the_protocols()
         ≡ does_on_tick config service (record attempt { ticks = attempt.ticks + 1 }) (tick_turn again (ticked r)) a }
     ensures stands { (config : Config) (service : Service) (a : StepSoFar) (r : Trying) (attempt : Attempt) →
         StandsFor config service a.view r attempt → StandsFor config service a.view (ticked r) (record attempt { ticks = attempt.ticks + 1 }) }
+{}
+
+/// What a call leaves stands for what the protocol's rule leaves: of a begun attempt, of an answer, a part and a checkpoint that is gone.
+pub fn what_a_call_leaves_stands_for_the_protocols()
+    ensures begun { (config : Config) (service : Service) (view : View) (number : ℕ) (r : Trying) → r ≡ begun config service.partition view.id (epoch_of view) number (own_tuple view service) →
+        StandsFor config service view r r.attempt }
+    ensures heard { (config : Config) (service : Service) (view : View) (r : Trying) (attempt : Attempt) (from : NodeId) (epoch number : ℕ) (tuple : List (RingId × ℕ)) →
+        StandsFor config service view r attempt → StandsFor config service view (heard from epoch number tuple r) (left_of (heard from epoch number tuple r) attempt) }
+    ensures parted { (config : Config) (service : Service) (view : View) (r : Trying) (attempt : Attempt) (from : NodeId) (epoch number : ℕ) (tuple : List (RingId × ℕ)) (offset total : ℕ) (bytes : List ℕ) →
+        StandsFor config service view r attempt → StandsFor config service view (parted from epoch number tuple offset total bytes r) (left_of (parted from epoch number tuple offset total bytes r) attempt) }
+    ensures gone { (config : Config) (service : Service) (view : View) (r : Trying) (attempt : Attempt) (from : NodeId) (epoch number : ℕ) (asked newer : List (RingId × ℕ)) →
+        StandsFor config service view r attempt → StandsFor config service view (gone from epoch number asked newer r) (left_of (gone from epoch number asked newer r) attempt) }
 {}

@@ -1,11 +1,8 @@
-use Rattle.std.proofs.Common.{arith, ◌≡◌, ◌≤◌, ◌∙◌, sym, ap, length, Some}
+use Rattle.std.proofs.Common.{◌≡◌, ◌∙◌, sym, ap, Some}
 use Rattle.std.specs.Option.{option_map}
-use Rattle.mrp_types.specs.Seats.{numbers_of_nodes}
-use Rattle.mrp_config.specs.declared.tables.PartitionTable.{PartitionTable}
 use Rattle.mrp_config.specs.Config.{partition_at}
-use Rattle.mrp_config.specs.Valid.{ArePartitions}
 use Rattle.mrp_config.specs.Walk.{node_ids, ring_ids}
-use Rattle.recovery.proofs.Finding.{of_found, few_needed, low_replicas}
+use Rattle.recovery.proofs.Finding.{few_needed, low_replicas}
 use Rattle.recovery.proofs.attempt.size_of.Goals as goal
 
 pub returns-clause-few : goal.returns-clause-few
