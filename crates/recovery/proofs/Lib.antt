@@ -1,0 +1,4 @@
+pub mod Ties
+pub mod Comparing
+pub mod Finding
+pub mod Standing
