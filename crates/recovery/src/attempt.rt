@@ -273,7 +273,14 @@ impl Recovery {
         missing(self.replicas.items(), &self.answers)
     }
 
-    /// The gathered bytes.
+    /// Whether all bytes of the choice are there.
+    pub fn is_whole(&self) -> bool
+        ensures { result ≡ self.now.whole }
+    {
+        self.whole
+    }
+
+    /// The gathered bytes, once all are there.
     pub fn bytes(self) -> Octets
         requires { self.whole ≡ true }
         ensures { (choice : Choice) → self.attempt.choice ≡ Some choice → result ≡ choice.bytes }
