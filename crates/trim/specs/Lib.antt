@@ -1,2 +1,3 @@
 pub mod Quorums
 pub mod Rounds
+pub mod Rows

@@ -6,6 +6,8 @@
 #![tactic(auto)]
 
 mod round;
+mod rows;
 mod subscribers;
 
 pub use round::TrimRound;
+pub use rows::{a_quorum_says_the_least, each_partition_has_a_quorum};
