@@ -1,9 +1,8 @@
 -- A save leaves the checkpoint before or after.
 use Rattle.disk_model.specs.Sim.{Sim}
-use Rattle.std.proofs.Common.{Bool, true, false, if◌then◌else◌, [], ◌≡◌, ℕ, ◌+◌, ◌<◌, ◌≤◌, ◌^◌, ◌-◌, inl, inr, List, length, Option, Some, Result, Ok, Err, IsErrAnd, refl, ap, sym, ◌∙◌, subst}
+use Rattle.std.proofs.Common.{Bool, true, false, if◌then◌else◌, [], ◌≡◌, ℕ, ◌+◌, inl, List, Option, Some, Result, Ok, Err, IsErrAnd, refl, ap, sym, ◌∙◌, subst}
 use Rattle.mrp_types.specs.declared.id.RingId.{RingId}
 use Rattle.disk_model.specs.declared.area.Area.{Area}
-use Rattle.disk_model.specs.declared.areas.Areas.{Areas}
 use Rattle.disk_model.specs.declared.area.Refused.{Refused}
 use Rattle.disk_model.specs.declared.area.Refused.TheVariants.{Failed, Memory as Wanting}
 use Rattle.disk_model.specs.declared.disk.Disk.{Ghosts}

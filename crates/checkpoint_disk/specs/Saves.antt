@@ -1,5 +1,5 @@
 -- What a save leaves at each moment, and how its operations end.
-use Rattle.std.specs.Prelude.{◌≡◌, ◌⊎◌, ℕ, Bool, true, false, not, List, [], Option, None, Some, Result, Ok, Err, if◌then◌else◌}
+use Rattle.std.specs.Prelude.{◌≡◌, ◌⊎◌, ℕ, Bool, false, not, List, [], Option, None, Some, Result, Ok, Err, if◌then◌else◌}
 use Rattle.mrp_types.specs.declared.id.RingId.{RingId}
 use Rattle.disk_model.specs.declared.areas.Areas.{Areas}
 use Rattle.disk_model.specs.Calls.{Told}

@@ -1,10 +1,10 @@
-use Rattle.std.proofs.Common.{◌≡◌, ◌+◌, ℕ, List, length, ap, sym, ◌∙◌, subst, arith}
+use Rattle.std.proofs.Common.{◌≡◌, ◌+◌, ℕ, List, length, ap, ◌∙◌, arith}
 use Rattle.disk_model.proofs.Went.{went_none, went_wanting, went_before}
 use Rattle.mrp_types.specs.declared.id.RingId.{RingId}
 use Rattle.disk_states.proofs.Spelling.{body_length}
 use Rattle.checkpoint.specs.Spelling.{checkpoint_body}
 use Rattle.checkpoint.specs.Checkpoints.{save_ops}
-use Rattle.checkpoint_disk.proofs.Wholeness.{still, moments, saves, reads_new, refused_went, wanted_went}
+use Rattle.checkpoint_disk.proofs.Wholeness.{still, moments, saves, reads_new, wanted_went}
 use Rattle.checkpoint_disk.proofs.saving.put.Goals as goal
 
 pub returns-in_err-body-clause-moments : goal.returns-in_err-body-clause-moments
