@@ -1,5 +1,5 @@
 -- The bytes of an area, and the tests of two tuples.
-use Rattle.std.proofs.Common.{◌≡◌, ℕ, ◌<◌, inl, inr, Bool, true, false, List, [], ◌∷◌, length, drop, Result, Ok, Err, refl, ap, sym, ◌∙◌, arith}
+use Rattle.std.proofs.Common.{◌≡◌, ℕ, ◌<◌, inl, inr, Bool, true, false, List, [], ◌∷◌, length, drop, Result, Ok, Err, refl, ap, ◌∙◌, arith}
 use Rattle.std.proofs.lemmas.List.{drop_all}
 use Rattle.mrp_types.specs.declared.id.RingId.{RingId}
 use Rattle.disk_model.specs.declared.area.Area.{Area}
@@ -8,7 +8,7 @@ use Rattle.command_codec.specs.declared.fault.CodecFault.TheVariants.{Short, Bad
 use Rattle.command_codec.specs.Reader.{within}
 use Rattle.frames.specs.Grammar.{all_of, tuple_at}
 use Rattle.gate_area.specs.declared.pair.SurveyFault.{SurveyFault}
-use Rattle.gate_area.specs.declared.pair.SurveyFault.TheVariants.{Disk, Damaged, Memory}
+use Rattle.gate_area.specs.declared.pair.SurveyFault.TheVariants.{Damaged}
 use Rattle.plain_model.specs.StateBytes.{fault_position}
 use Rattle.checkpoint.specs.Checkpoints.{Checkpoint, checkpoint_at, checkpoints_at, is_after, is_same_tuple}
 use Rattle.checkpoint.proofs.Tests.{same-is}

@@ -1,5 +1,5 @@
 -- How an opening goes by its operations.
-use Rattle.std.proofs.Common.{◌≡◌, ℕ, inl, inr, Bool, true, List, [], ◌∷◌, ◌++◌, Option, None, Some, Result, Ok, Err, IsErrAnd, IsErrOf, length, refl, ap, sym, ◌∙◌, subst}
+use Rattle.std.proofs.Common.{◌≡◌, ℕ, inl, inr, List, [], ◌++◌, None, Some, Result, Ok, Err, IsErrAnd, IsErrOf, length, refl, ap, sym, ◌∙◌}
 use Rattle.disk_model.specs.declared.area.Area.{Area}
 use Rattle.disk_model.specs.declared.disk.Disk.{Ghosts}
 use Rattle.disk_model.specs.Calls.{Told, Tells, and_then, reads}

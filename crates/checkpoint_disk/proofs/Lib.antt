@@ -1,3 +1,4 @@
 pub mod Damages
 pub mod Opening
 pub mod Going
+pub mod Wholeness

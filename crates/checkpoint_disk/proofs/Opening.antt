@@ -7,7 +7,7 @@ use Rattle.disk_model.proofs.Reading.{reads-bytes}
 use Rattle.gate_area.specs.declared.pair.Pair.TheVariants.{Check}
 use Rattle.gate_area.specs.declared.pair.Standing.TheVariants.{None as Fresh, At}
 use Rattle.gate_area.specs.declared.pair.SurveyFault.{SurveyFault}
-use Rattle.gate_area.specs.declared.pair.SurveyFault.TheVariants.{Disk, Damaged, Memory}
+use Rattle.gate_area.specs.declared.pair.SurveyFault.TheVariants.{Damaged}
 use Rattle.gate_area.specs.Standing.{answer_at, answer_of, Answers, stands}
 use Rattle.checkpoint.specs.Checkpoints.{Checkpoints, no_checkpoints, read_area, checkpoints_at, checkpoints_of, checkpoints_in}
 use Rattle.checkpoint_disk.specs.Standing.{Finds, IsWant}

@@ -1,2 +1,4 @@
+pub mod Faults
+pub mod Saves
 pub mod Shown
 pub mod Standing

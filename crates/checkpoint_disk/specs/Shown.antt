@@ -1,7 +1,6 @@
 -- The checkpoint that the code holds, as its callers see it.
 use Rattle.std.specs.Prelude.{◌≤◌, Option, None, Some}
-use Rattle.checkpoint.specs.Checkpoints.{Checkpoint, Checkpoints, no_checkpoints}
-use Rattle.checkpoint_disk.specs.declared.reading.Contents.{Contents}
+use Rattle.checkpoint.specs.Checkpoints.{Checkpoints, no_checkpoints}
 use Rattle.checkpoint_disk.specs.declared.checkpoints.Stored.{Stored}
 
 abbrev pub shown_pair : Option Stored → Checkpoints

@@ -1,5 +1,5 @@
 -- What an opening answers, and what it asks of a disk.
-use Rattle.std.specs.Prelude.{◌≡◌, ◌⊎◌, MatchResult, ℕ, List, [], ◌∷◌, ◌++◌, Option, None, Some, Result, Ok, Err}
+use Rattle.std.specs.Prelude.{◌≡◌, ◌⊎◌, MatchResult, ℕ, List, [], ◌++◌, Option, None, Some, Result, Ok, Err}
 use Rattle.disk_model.specs.declared.area.Area.{Area}
 use Rattle.disk_model.specs.Calls.{Told, reads}
 use Rattle.disk_model.specs.Running.{Op}

@@ -1,16 +1,20 @@
 //! The newest checkpoint on a disk.
 
-ghost use Rattle.std.specs.Prelude.{◌≡◌, length, None, Some, IfOk, IsErrOf, MatchOption};
-ghost use Rattle.disk_model.specs.Calls.{Told, Tells, area_bytes, reads};
+ghost use Rattle.std.specs.Prelude.{◌≡◌, ◌<◌, ◌-◌, ◌^◌, ◌↔◌, ℕ, List, length, true, None, Some, Ok, OnOk, IfOk, IsErrOf, MatchOption, IfSome, is_some};
+ghost use Rattle.disk_model.specs.Calls.{Told, Tells, LeavesOnly, IsSettled, area_bytes, reads};
 ghost use Rattle.disk_model.specs.Went.{WentBy};
 ghost use Rattle.gate_area.specs.Operations.{area_readings, survey_ending};
 ghost use Rattle.gate_area.specs.declared.pair.SurveyFault.TheVariants.{Disk as NoDisk};
-ghost use Rattle.checkpoint.specs.Checkpoints.{checkpoints_at, checkpoints_in, read_area as read_area_lem, place as place_lem, part_of, part_at as part_at_lem, part_in as part_in_lem};
+ghost use Rattle.checkpoint.specs.Checkpoints.{checkpoints_at, checkpoints_in, read_area as read_area_lem, place as place_lem, saved, part_of, part_at as part_at_lem, part_in as part_in_lem};
+ghost use Rattle.mrp_types.specs.declared.id.RingId.{RingId as SomeRing};
+ghost use Rattle.checkpoint_disk.specs.Saves.{SaveLeaves, OlderThan, is_older, saving_ops, save_ending};
+ghost use Rattle.checkpoint_disk.specs.declared.fault.SaveFault.TheVariants.{Older};
 ghost use Rattle.checkpoint_disk.specs.Standing.{Finds, open_ops, shown_contents, shown_part};
 
-use crate::PartAnswer;
 use crate::reading::{Contents, damage, read_area};
+use crate::saving::{next_area, put};
 use crate::tuples::{is_after, is_same};
+use crate::{PartAnswer, SaveFault};
 use disk_model::{Area, Disk};
 use gate_area::{Pair, Standing, SurveyFault, read_all, survey};
 use mrp_types::{Memory, Octets, Tuple};
@@ -92,6 +96,16 @@ impl Checkpoints {
         }
     }
 
+    /// The area that stands.
+    pub(crate) fn area(&self) -> Option<Area>
+        ensures { result ≡ self.now.area }
+    {
+        match &self.stored {
+            None => None,
+            Some(stored) => Some(stored.area),
+        }
+    }
+
     /// The generation of the area that stands, 0 where none does.
     pub fn generation(&self) -> u64
         ensures { result ≡ self.now.generation }
@@ -99,6 +113,52 @@ impl Checkpoints {
         match &self.stored {
             None => 0,
             Some(stored) => stored.generation,
+        }
+    }
+
+    /// Saves a checkpoint in the area that doesn't stand. It asks that nothing is pending, that the disk holds these
+    /// checkpoints, and that their generation is below 2^64 - 1. At each moment a crash leaves the old checkpoint or the
+    /// new one. `Older` carries the newest tuple, where this one isn't after it, and then no call is made.
+    pub fn save<D: Disk>(
+        self,
+        disk: &mut D,
+        tuple: Tuple,
+        state: Octets,
+    ) -> Result<Checkpoints, SaveFault>
+        requires generation { self.generation < 2 ^ 64 - 1 }
+        requires settled { (t : Told) → Tells (D.told disk.old) (D.honest disk.old) t → IsSettled t }
+        requires stands { (t : Told) → Tells (D.told disk.old) (D.honest disk.old) t → checkpoints_in (reads t) ≡ Ok self }
+        ensures older { (newer : List (SomeRing × ℕ)) → IsErrOf result (Older newer) ↔ OlderThan self.newest tuple newer }
+        ensures idle { is_older self.newest tuple ≡ true → disk.new ≡ disk.old }
+        ensures saved { IfOk result (λ checkpoints. checkpoints ≡ saved self tuple state) }
+        ensures moments { (t : Told) → Tells (D.told disk.old) (D.honest disk.old) t → LeavesOnly t (D.told disk.new) (SaveLeaves self tuple state (reads t)) }
+        ensures stands { (u : Told) → Tells (D.told disk.new) (D.honest disk.new) u → IfOk result (λ checkpoints. checkpoints_in (reads u) ≡ Ok checkpoints) }
+        ensures done { (u : Told) → Tells (D.told disk.new) (D.honest disk.new) u → OnOk result (IsSettled u) }
+        ensures went { WentBy D.Disk (saving_ops self tuple state) disk.old disk.new (save_ending result) }
+    {
+        match older_than(&self, &tuple) {
+            Some(newest) => Err(SaveFault::Older(newest)),
+            None => {
+                put(self.alloc, disk, &self, &tuple, state.bytes())?;
+                Ok(self.followed(tuple, state))
+            }
+        }
+    }
+
+    // These checkpoints once that one is saved.
+    fn followed(self, tuple: Tuple, state: Octets) -> Checkpoints
+        requires { self.generation < 2 ^ 64 - 1 }
+        ensures { result ≡ saved self tuple state }
+    {
+        let next = Stored {
+            area: next_area(&self),
+            generation: self.generation() + 1,
+            from: 18,
+            contents: Contents { tuple, state },
+        };
+        Checkpoints {
+            alloc: self.alloc,
+            stored: Some(next),
         }
     }
 
@@ -110,6 +170,24 @@ impl Checkpoints {
         match &self.stored {
             None => Ok(PartAnswer::Unknown),
             Some(stored) => part_in(self.alloc, &stored.contents, tuple, offset),
+        }
+    }
+}
+
+// The newest tuple, where this one isn't after it.
+fn older_than(checkpoints: &Checkpoints, tuple: &Tuple) -> Option<Tuple>
+    ensures some { IfSome result (λ newer. OlderThan checkpoints.now.newest tuple.now newer) }
+    ensures older { is_older checkpoints.now.newest tuple.now ≡ is_some result }
+{
+    match &checkpoints.stored {
+        None => None,
+        Some(stored) => {
+            let newest = stored.contents.tuple;
+            if is_after(newest.pairs(), tuple.pairs()) {
+                None
+            } else {
+                Some(newest)
+            }
         }
     }
 }

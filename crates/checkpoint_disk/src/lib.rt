@@ -2,9 +2,12 @@
 #![tactic(auto)]
 
 mod checkpoints;
+mod fault;
 mod part;
 mod reading;
+mod saving;
 mod tuples;
 
 pub use checkpoints::Checkpoints;
+pub use fault::SaveFault;
 pub use part::PartAnswer;
