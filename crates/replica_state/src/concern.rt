@@ -2,11 +2,27 @@
 
 ghost use Rattle.std.specs.Prelude.{◌≡◌, not, ◌&&◌};
 ghost use Rattle.mrp_config.specs.Routing.{is_before, is_below, is_within, do_meet, has_some, is_concerned};
+ghost use Rattle.replica_state.specs.Held.{is_look};
 
 use command_codec::Command;
 use mrp_config::{PartitionTable, has_log};
 use mrp_types::LogId;
 use std::cmp::Ordering;
+
+/// Whether the command only looks: a ReadLog, a Get or a Scan.
+pub fn looks(command: &Command) -> bool
+    ensures { result ≡ is_look command.now }
+{
+    match command {
+        Command::ReadLog {
+            log: _,
+            position: _,
+        } => true,
+        Command::Get { key: _ } => true,
+        Command::Scan { from: _, to: _ } => true,
+        _ => false,
+    }
+}
 
 /// Whether the command concerns the partition.
 #[tactic(auto, unfolding(mrp_config::specs::Routing::is_concerned))]

@@ -10,4 +10,5 @@ mod sessions;
 mod state;
 mod tables;
 
+pub use concern::looks;
 pub use state::ReplicaState;

@@ -33,7 +33,8 @@ pub enum Turn {
 /// The reply that kept bytes spell.
 pub fn reply_again(alloc: Global, bytes: &[u8]) -> Result<Reply, Memory>
     requires { was_reply (reply_of bytes.now) ≡ true }
-    ensures { IfOk result (λ reply. bytes.now ≡ reply_bytes reply) }
+    ensures kept { IfOk result (λ reply. bytes.now ≡ reply_bytes reply) }
+    ensures spelled { IfOk result IsReply }
 {
     match read_reply(alloc, bytes) {
         Ok(reply) => Ok(reply),
@@ -95,6 +96,7 @@ pub fn take_parts(
     requires room { has_no_room logs.old table.old ≡ false }
     ensures state { OnOk result (replica_with sessions.new.entries logs.new table.new ≡ (taken (replica_with sessions.old.entries logs.old table.old) entry.now command.now).replica) }
     ensures reply { IfOk result (λ reply. Some (reply_bytes reply) ≡ (taken (replica_with sessions.old.entries logs.old table.old) entry.now command.now).reply) }
+    ensures spelled { IfOk result IsReply }
 {
     let reply = take_command(logs, table, command)?;
     let bytes = write_reply(alloc, &reply)?;

@@ -5,14 +5,14 @@ ghost use Rattle.command_codec.specs.Valid.{IsCommand, rises_from};
 ghost use Rattle.command_codec.specs.Replies.{IsReply, reply_bytes};
 ghost use Rattle.command_codec.specs.Grammar.{command_of};
 ghost use Rattle.command_codec.specs.declared.fault.CodecFault.TheVariants.{Memory as Wanted};
-ghost use Rattle.mrp_config.specs.Routing.{is_concerned};
+ghost use Rattle.mrp_config.specs.Routing.{is_concerned as is_concerned_lem};
 ghost use Rattle.plain_model.specs.Fold.{concerning};
 ghost use Rattle.plain_model.specs.Replicas.{apply as apply_lem, taken, empty_replica, effect_of};
 ghost use Rattle.plain_model.specs.StateBytes.{state_bytes, whole_state};
 ghost use Rattle.services.specs.Reading.{SaysState};
 ghost use Rattle.mrp_config.specs.declared.tables.PartitionTable.{PartitionTable};
 ghost use Rattle.replica_state.specs.Held.{Held, is_look};
-ghost use Rattle.replica_state.specs.Turns.{IsTurn};
+ghost use Rattle.replica_state.specs.Turns.{IsTurn, GivesReply};
 ghost use Rattle.state_laws.specs.States.{IsGiven, HasFewLogs};
 ghost use Rattle.mrp_config.specs.Config.{partition_at};
 ghost use Rattle.hex.specs.Hex.{IsBytes};
@@ -120,13 +120,21 @@ impl ReplicaState {
         })
     }
 
+    /// Whether the command concerns the partition.
+    pub fn is_concerned(&self, command: &Command) -> bool
+        ensures { result ≡ is_concerned_lem command.now self.now.partition }
+    {
+        concerns(command, &self.partition)
+    }
+
     /// What is replied to a ReadLog, a Get or a Scan. The state stays as it is; after `Memory` it is spent.
     pub fn look(&mut self, command: &Command) -> Result<Reply, Memory>
         requires valid { IsCommand command.now }
-        requires concerned { is_concerned command.now self.old.partition ≡ true }
+        requires concerned { is_concerned_lem command.now self.old.partition ≡ true }
         requires looks { IsTrue (is_look command.now) }
         ensures state { OnOk result (self.new ≡ self.old) }
         ensures reply { IfOk result (λ reply. reply ≡ (effect_of command.now self.old.replica.logs self.old.replica.table).reply) }
+        ensures spelled { IfOk result IsReply }
     {
         match take_command(&mut self.logs, &mut self.table, command) {
             Ok(reply) => Ok(reply),
@@ -154,6 +162,7 @@ impl ReplicaState {
         requires { IsEntry entry.now }
         ensures state { OnOk result (self.new ≡ record { partition = self.old.partition; replica = (apply_lem self.old.partition self.old.replica entry.now).replica }) }
         ensures reply { IfOk result (λ reply. option_map reply_bytes reply ≡ (apply_lem self.old.partition self.old.replica entry.now).reply) }
+        ensures spelled { IfOk result (λ reply. IfSome reply IsReply) }
     {
         let Some(command) = self.command_in(entry)? else {
             return Ok(None);
@@ -167,7 +176,8 @@ impl ReplicaState {
 
     /// What becomes of a command of the entry, by what is kept of its client.
     fn turn(&self, entry: &Entry) -> Result<Turn, Memory>
-        ensures { IfOk result (IsTurn self.now.replica entry.now) }
+        ensures turn { IfOk result (IsTurn self.now.replica entry.now) }
+        ensures spelled { IfOk result GivesReply }
     {
         let Some(kept) = find(&self.sessions, entry.client) else {
             return Ok(Turn::Take);
@@ -185,10 +195,11 @@ impl ReplicaState {
     fn take(&mut self, entry: &Entry, command: &Command) -> Result<Reply, Memory>
         requires given { IsGiven entry.now }
         requires valid { IsCommand command.now }
-        requires concerned { is_concerned command.now self.old.partition ≡ true }
+        requires concerned { is_concerned_lem command.now self.old.partition ≡ true }
         requires taken { apply_lem self.old.partition self.old.replica entry.now ≡ taken self.old.replica entry.now command.now }
         ensures state { OnOk result (self.new ≡ record { partition = self.old.partition; replica = (taken self.old.replica entry.now command.now).replica }) }
         ensures reply { IfOk result (λ reply. Some (reply_bytes reply) ≡ (taken self.old.replica entry.now command.now).reply) }
+        ensures spelled { IfOk result IsReply }
     {
         match take_parts(
             self.alloc,
