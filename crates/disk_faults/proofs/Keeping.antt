@@ -46,8 +46,8 @@ use Rattle.disk_runs.proofs.Tying.{node_put, same_node}
 use Rattle.disk_runs.proofs.Readable.{no_damage}
 use Rattle.disk_faults.specs.Faults.{is_fault_at, sets_fault}
 use Rattle.disk_faults.proofs.Plans.{Calm, Ends, ran_ends}
-use Rattle.disk_faults.proofs.Quiet.{IsNoDown, Quiet}
-use Rattle.disk_faults.proofs.Stepping.{step_quiet, opened_quiet}
+use Rattle.disk_faults.proofs.Quiet.{IsNoDown, Quiet, own_lines}
+use Rattle.node_lines.proofs.Stepping.{step_quiet, opened_quiet}
 use Rattle.disk_faults.proofs.Asking.{asks_quiet, client_ticks_quiet, client_takes_quiet}
 
 -- the line isn't that of a disk of this node that failed
@@ -160,7 +160,7 @@ module _ (config : Config) (id : NodeId) where
       at view disk found false =
           let made = step config view event in
           let ops = ops_of view made.work disk.told in
-          by_work q made (changes_in ops) (ran ops disk) (step_quiet config view event) (λ same. ran_ends ops disk (own_plan q w (Up view disk) found calm same)) w calm
+          by_work q made (changes_in ops) (ran ops disk) (own_lines (step config view event).lines (step_quiet config view event)) (λ same. ran_ends ops disk (own_plan q w (Up view disk) found calm same)) w calm
 
       by : (o : Option Host) → node_at w q ≡ o → Keeps id (steps_as config q event o w)
       by None found = still w calm
@@ -185,7 +185,7 @@ module _ (config : Config) (id : NodeId) where
       by_result (Err cause) e = falls q now.disk cause (λ same is. sound (e ∙ ap Err is)) w calm
       by_result (Ok kept) e =
           goes_on q (line.Up q kept.journal.state.epoch ∷ []) (opened config q kept.journal kept.checkpoints) now.disk.told.calls now.disk (tt, tt)
-          (opened_quiet config q kept.journal kept.checkpoints) (λ same. (ends same).calm) w calm
+          (own_lines (opened config q kept.journal kept.checkpoints).lines (opened_quiet config q kept.journal kept.checkpoints)) (λ same. (ends same).calm) w calm
 
       by : (b : Bool) → now.done ≡ b → Keeps id (opened_where config q found.result now.disk b w)
       by true e = by_result found.result refl

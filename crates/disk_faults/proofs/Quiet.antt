@@ -1,10 +1,8 @@
 -- Lines that say of no node that it went down.
-use Rattle.std.proofs.Common.{List, Bool, true, false}
-use Rattle.std.specs.Prelude.{if◌then◌else◌}
+use Rattle.std.proofs.Common.{List, [], ◌∷◌}
 use Rattle.std.specs.List.{AllByRecursion}
 use Rattle.protocol.specs.Lines.{Line, Down}
-use Rattle.protocol.specs.Node.{StepSoFar}
-use Rattle.protocol.specs.Parts.{Effects}
+use Rattle.node_lines.specs.Printed.{IsNodeLine}
 
 abbrev pub IsNoDown : Line → Type 0
 IsNoDown (Down node cause) = ⊥
@@ -13,11 +11,11 @@ IsNoDown other = Unit {0}
 abbrev pub Quiet : List Line → Type 0
 Quiet lines = AllByRecursion IsNoDown lines
 
--- a choice between two
-pub either : (b : Bool) (x y : Effects) → Quiet x.lines → Quiet y.lines → Quiet (if b then x else y).lines
-either true x y p q = p
-either false x y p q = q
+-- no line of a node is one of them
+own_line : (l : Line) → IsNodeLine l → IsNoDown l
+own_line (Down node cause) is = is
+own_line other is = tt
 
-pub either_so : (b : Bool) (x y : StepSoFar) → Quiet x.lines → Quiet y.lines → Quiet (if b then x else y).lines
-either_so true x y p q = p
-either_so false x y p q = q
+pub own_lines : (lines : List Line) → AllByRecursion IsNodeLine lines → Quiet lines
+own_lines [] all = tt
+own_lines (l ∷ lines) all = (own_line l all.0, own_lines lines all.1)

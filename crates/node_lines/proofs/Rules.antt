@@ -1,4 +1,4 @@
--- What a rule of a ring prints says of no node that it went down.
+-- What a rule of a ring prints is a line of a node.
 use Rattle.std.proofs.Common.{ℕ, zero, suc, ◌==◌, ◌^◌, nat_lt, ◌&&◌, length, List, [], ◌∷◌, Option, Some, None}
 use Rattle.std.specs.Prelude.{if◌then◌else◌, nat_le, not}
 use Rattle.mrp_types.specs.declared.id.NodeId.{NodeId}
@@ -24,7 +24,8 @@ use Rattle.protocol.specs.Leading.{is_to_start, starts_idle, starts_on_tick, res
 use Rattle.protocol.specs.Learner.{decided, chosen, learned_ranges}
 use Rattle.protocol.specs.Proposing.{offers, Turn, Stops, Proposes, Choice, Rests, Offers, turn_by, turn_in, turn_of, proposing, proposes_after, proposes, advanced, has_room}
 use Rattle.protocol.specs.Trimming.{trimmed, trims_above, ends_by, asks_round, answers, answers_in, least, asks, with_own_answer, next_round, with_asked, with_answer, goes_on_round}
-use Rattle.disk_faults.proofs.Quiet.{IsNoDown, Quiet, either}
+use Rattle.node_lines.specs.Printed.{IsNodeLine}
+use Rattle.node_lines.proofs.Quiet.{Quiet, either}
 
 module _ (ring : Ring) where
   -- ---- words
@@ -230,7 +231,7 @@ module _ (ring : Ring) where
 
   trims_above_quiet : (inst : ℕ) (effects : Effects) → Quiet effects.lines → Quiet (trims_above ring inst effects).lines
   trims_above_quiet inst effects q =
-      either _ _ _ (trims_quiet inst (with_line (Trim ring.own ring.id inst) effects) (appended IsNoDown effects.lines (Trim ring.own ring.id inst ∷ []) q (tt, tt))) q
+      either _ _ _ (trims_quiet inst (with_line (Trim ring.own ring.id inst) effects) (appended IsNodeLine effects.lines (Trim ring.own ring.id inst ∷ []) q (tt, tt))) q
 
   round_quiet : (link : Link) (round : Round) (effects : Effects) → Quiet effects.lines → (o : Option ℕ) → Quiet (ends_by ring link round effects o).lines
   round_quiet link round effects q None = q

@@ -1,4 +1,4 @@
--- What a step prints besides the rules of its rings, and where it learns, says of no node that it went down.
+-- What a step prints besides the rules of its rings, and where it learns, are lines of a node.
 use Rattle.std.proofs.Common.{ℕ, zero, suc, ◌+◌, ◌-◌, ◌^◌, ◌==◌, nat_lt, ◌&&◌, length, Bool, true, false, List, [], ◌∷◌, ◌++◌, map, Option, Some, None}
 use Rattle.std.specs.Prelude.{if◌then◌else◌}
 use Rattle.std.specs.List.{flat_map}
@@ -22,15 +22,16 @@ use Rattle.protocol.specs.Recovery.{epoch_of, own_tuple, others_of, asks_checkpo
 use Rattle.protocol.specs.Step.{begins_if_waits_below, after_trim, recovers_if_trimmed}
 use Rattle.protocol.specs.Proposing.{proposes}
 use Rattle.protocol.specs.Learning.{Queued, queued, with_effects, proposes_then, by_news, learns_one, then_learns, learns_up_to, applies_effects}
-use Rattle.disk_faults.proofs.Quiet.{IsNoDown, Quiet, either_so}
-use Rattle.disk_faults.proofs.Rules.{proposes_quiet}
+use Rattle.node_lines.specs.Printed.{IsNodeLine}
+use Rattle.node_lines.proofs.Quiet.{Quiet, either_so}
+use Rattle.node_lines.proofs.Rules.{proposes_quiet}
 
--- a step on its way has printed no such line
+-- a step on its way has printed such lines alone
 abbrev pub Still : StepSoFar → Type 0
 Still a = Quiet a.lines
 
 more : (lines new : List Line) → Quiet lines → Quiet new → Quiet (lines ++ new)
-more lines new p q = appended IsNoDown lines new p q
+more lines new p q = appended IsNodeLine lines new p q
 
 replies_quiet : (node : NodeId) (place : RingId × ℕ) (replied : List (ℕ × Entry × List ℕ)) → Quiet (map (reply_line node place) replied)
 replies_quiet node place [] = tt

@@ -1,4 +1,4 @@
--- No step and no opening prints that a node went down: a line of that kind is the world's alone.
+-- All lines of a step and of an opening are lines of a node.
 use Rattle.std.proofs.Common.{ℕ, ◌+◌, ◌%◌, ◌/◌, ◌==◌, ◌&&◌, Bool, true, false, List, [], ◌∷◌, Option, Some, None}
 use Rattle.std.specs.Prelude.{if◌then◌else◌}
 use Rattle.mrp_types.specs.declared.id.NodeId.{NodeId}
@@ -30,9 +30,9 @@ use Rattle.protocol.specs.Opening.{begins_first, opened, view_of}
 use Rattle.protocol.specs.Merging.{place_of}
 use Rattle.protocol.specs.Step.{at_member, at_acceptor, handles_trim_at, handles_trim, handles_submit, tells_safe, at_service, at_attempt, recovering, handles_body, handles_from, step}
 use Rattle.protocol.specs.Tick.{saves, saves_stage, saves_first, is_due_to_compact, compacts, rules_at, rules_for, ticks_ring, ticks_rings, fetches_at, fetches_stage, fetches_missing, asks_on_beat, recovery_ticks_at, beats, or_compacts, ticks}
-use Rattle.disk_faults.proofs.Quiet.{Quiet, either_so}
-use Rattle.disk_faults.proofs.Rules.{prepares_quiet, accepts_quiet, fetches_quiet, decided_quiet, chosen_quiet, trimmed_quiet, promised_quiet, refused_quiet, leads_quiet, submits_quiet, starts_quiet, resends_quiet, levels_quiet, asks_round_quiet, answers_quiet}
-use Rattle.disk_faults.proofs.Words.{Still, begins_still, answered_still, part_still, gone_still, tells_still, recovery_still, trim_still, applies_still}
+use Rattle.node_lines.proofs.Quiet.{Quiet, either_so}
+use Rattle.node_lines.proofs.Rules.{prepares_quiet, accepts_quiet, fetches_quiet, decided_quiet, chosen_quiet, trimmed_quiet, promised_quiet, refused_quiet, leads_quiet, submits_quiet, starts_quiet, resends_quiet, levels_quiet, asks_round_quiet, answers_quiet}
+use Rattle.node_lines.proofs.Words.{Still, begins_still, answered_still, part_still, gone_still, tells_still, recovery_still, trim_still, applies_still}
 
 module _ (config : Config) where
   -- ---- the frames of a ring

@@ -1,0 +1,4 @@
+pub mod Folds
+pub mod Places
+pub mod Joining
+pub mod Staying

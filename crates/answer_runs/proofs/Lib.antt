@@ -1,0 +1,7 @@
+pub mod Parts
+pub mod Replying
+pub mod Clients
+pub mod Books
+pub mod Runs
+pub mod Laws
+pub mod Giving

@@ -1,0 +1,4 @@
+pub mod Quiet
+pub mod Rules
+pub mod Words
+pub mod Stepping
