@@ -1,0 +1,3 @@
+pub mod Words
+pub mod Handlers
+pub mod Rounds

@@ -1,0 +1,11 @@
+pub mod Growing
+pub mod Words
+pub mod Merging
+pub mod Restoring
+pub mod Hearing
+pub mod Learning
+pub mod Going
+pub mod Bodies
+pub mod Ticks
+pub mod Whole
+pub mod Left
