@@ -1,4 +1,6 @@
 pub mod Damages
+pub mod Found
+pub mod Fronts
 pub mod Opening
 pub mod Going
 pub mod Wholeness

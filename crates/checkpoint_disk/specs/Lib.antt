@@ -1,4 +1,5 @@
 pub mod Faults
+pub mod Saved
 pub mod Saves
 pub mod Shown
 pub mod Standing

@@ -1,5 +1,6 @@
 -- What an opening answers, and what it asks of a disk.
-use Rattle.std.specs.Prelude.{◌≡◌, ◌⊎◌, MatchResult, ℕ, List, [], ◌++◌, Option, None, Some, Result, Ok, Err}
+use Rattle.std.specs.Prelude.{◌≡◌, ◌⊎◌, MatchResult, ℕ, List, [], ◌++◌, drop, Option, None, Some, Result, Ok, Err}
+use Rattle.mrp_types.specs.declared.id.RingId.{RingId}
 use Rattle.disk_model.specs.declared.area.Area.{Area}
 use Rattle.disk_model.specs.Calls.{Told, reads}
 use Rattle.disk_model.specs.Running.{Op}
@@ -18,6 +19,10 @@ use Rattle.checkpoint_disk.specs.declared.part.PartAnswer.TheVariants.{Part as I
 
 abbrev pub shown_contents : Contents → Checkpoint
 shown_contents c = record { tuple = c.tuple; state = c.state }
+
+-- the checkpoint of this tuple whose state goes from a position on to the end
+abbrev pub checkpoint_from : List (RingId × ℕ) → ℕ → List ℕ → Checkpoint
+checkpoint_from tuple front bytes = record { tuple = tuple; state = drop front bytes }
 
 -- The checkpoint in an area and where it begins, or the damaged place of it, unless memory was wanting.
 abbrev pub IsRead : Result (ℕ × Checkpoint) ℕ → Result (ℕ × Contents) CodecFault → Type 0

@@ -53,7 +53,7 @@ impl Model for Checkpoints {
 
 impl Checkpoints {
     /// Finds the newest checkpoint of a disk. `Damaged` says at which position of which area a byte can't be there. It
-    /// only reads; memory for an area's bytes and for the state among them is taken on the way.
+    /// only reads; memory for an area's bytes is taken on the way, and the state among them keeps that room.
     pub fn open<D: Disk>(alloc: Global, disk: &mut D) -> Result<Checkpoints, SurveyFault>
         ensures finds { (t : Told) → Tells (D.told disk.old) (D.honest disk.old) t → Finds (checkpoints_in (reads t)) result }
         ensures told { D.told disk.new ≡ D.told disk.old }
@@ -204,7 +204,7 @@ fn resume<D: Disk>(
     ensures went { WentBy D.Disk (area_readings area) disk.old disk.new (survey_ending result) }
 {
     let bytes = read_all(alloc, disk, area)?;
-    stored_in(alloc, area, generation, &bytes)
+    stored_in(alloc, area, generation, bytes)
 }
 
 // The checkpoint in these bytes of an area that stands.
@@ -212,9 +212,9 @@ fn stored_in(
     alloc: Global,
     area: Area,
     generation: u64,
-    bytes: &[u8],
+    bytes: Vec<u8>,
 ) -> Result<Checkpoints, SurveyFault>
-    ensures finds { Finds (checkpoints_at area generation (read_area_lem bytes.now)) result }
+    ensures finds { Finds (checkpoints_at area generation (read_area_lem bytes.items)) result }
     ensures undisturbed { IsErrOf result NoDisk → ⊥ }
 {
     match read_area(alloc, bytes) {

@@ -3,6 +3,7 @@
 
 mod checkpoints;
 mod fault;
+pub mod laws;
 mod part;
 mod reading;
 mod saving;
