@@ -1,0 +1,6 @@
+pub mod Books
+pub mod Deployed
+pub mod Worlds
+pub mod Clients
+pub mod Runs
+pub mod Laws
