@@ -2,7 +2,6 @@
 use Rattle.std.proofs.Common.{◌≡◌, ℕ, Bool, true, false, List, [], ◌∷◌, ◌++◌, Option, Some, Result, Ok, refl, sym, ap, ◌∙◌, subst}
 use Rattle.std.specs.Prelude.{◌==◌, ◌&&◌, nat_le, nat_lt, if◌then◌else◌}
 use Rattle.std.specs.List.{AllByRecursion}
-use Rattle.std.proofs.lemmas.List.{append_assoc}
 use Rattle.mrp_types.specs.declared.id.ClientId.{ClientId}
 use Rattle.mrp_types.specs.declared.id.RingId.{RingId}
 use Rattle.mrp_types.specs.declared.value.Entry.{Entry}
@@ -20,14 +19,13 @@ use Rattle.plain_model.specs.Fold.{entries_of_value}
 use Rattle.plain_model.specs.Lines.{learnings}
 use Rattle.plain_model.proofs.TupleOrder.{split_and, same_number}
 use Rattle.protocol.specs.Lines.{Line, Learn}
-use Rattle.line_rules.specs.Scanners.{learned, past}
 use Rattle.faithful.proofs.Quorum.{all_has}
 use Rattle.ask_laws.specs.Carried.{ValueCarries, LineCarries}
 use Rattle.ask_laws.specs.Asks.{IsAsked}
 use Rattle.ask_laws.proofs.Reading.{entries-asked}
 use Rattle.answer_laws.specs.Answering.{IsAskedOnce}
 
--- ---- what was learned, with the latest line last
+-- ---- what was learned
 
 pub learnings_both : (xs ys : List Line) → learnings (xs ++ ys) ≡ learnings xs ++ learnings ys
 learnings_both [] ys = refl
@@ -36,21 +34,6 @@ learnings_both (l ∷ xs) ys = by (learnings_both xs ys) l
     by : learnings (xs ++ ys) ≡ learnings xs ++ learnings ys → (k : Line) → learnings (k ∷ (xs ++ ys)) ≡ learnings (k ∷ xs) ++ learnings ys
     by later (Learn node ring lo hi value) = ap (λ (ls : List Learning). record { ring = ring; lo = lo; hi = hi; value = value } ∷ ls) later
     by later other = later
-
-learned_past : (before lines : List Line) → learned (past before lines) ≡ learned before ++ learnings lines
-learned_past before [] = append-none (learned before)
-  where
-    append-none : (xs : List Learning) → xs ≡ xs ++ []
-    append-none [] = refl
-    append-none (x ∷ xs) = ap (λ (ys : List Learning). x ∷ ys) (append-none xs)
-learned_past before (l ∷ lines) = learned_past (l ∷ before) lines ∙ by l
-  where
-    by : (k : Line) → learned (k ∷ before) ++ learnings lines ≡ learned before ++ learnings (k ∷ lines)
-    by (Learn node ring lo hi value) = append_assoc (learned before) (record { ring = ring; lo = lo; hi = hi; value = value } ∷ []) (learnings lines)
-    by other = refl
-
-pub learned_latest : (lines : List Line) → learned (past [] lines) ≡ learnings lines
-learned_latest lines = learned_past [] lines
 
 -- ---- values of the book
 

@@ -25,7 +25,7 @@ use Rattle.line_runs.specs.Laws.{IsRun, lines_of}
 use Rattle.ask_laws.specs.Asks.{asked_in}
 use Rattle.answer_laws.specs.Answering.{RepliesTo, AreInPlace, IsAskedOnce}
 use Rattle.answer_laws.proofs.Joining.{answer_joined, all_in_place}
-use Rattle.answer_runs.specs.Answers.{FramesReply, AreParts, HoldsParts, IsAnswered, LineAnswers, AreAnswers}
+use Rattle.answer_runs.specs.Answers.{AreParts, HoldsParts, IsAnswered, LineAnswers, AreAnswers}
 use Rattle.answer_runs.proofs.Books.{asked_once}
 use Rattle.answer_runs.proofs.Runs.{RunAnswers, all_answer}
 
@@ -97,9 +97,9 @@ answers_before : (c : Config) (new lines : List Line) → AreAnswers c (past lin
 answers_before c [] lines rules = rules
 answers_before c (l ∷ new) lines rules = (answers_before c new (l ∷ lines) rules).1
 
-module _ (c : Config) (hs : List Happening) (r : IsRun c hs) (frames : FramesReply c) where
+module _ (c : Config) (hs : List Happening) (r : IsRun c hs) where
   kept : RunAnswers c (asked_in c hs) (run c hs nothing)
-  kept = all_answer c r.valid frames hs r.may
+  kept = all_answer c r.valid hs r.may
 
   pub answer_line : (before after : List Line) (client : ClientId) (seq : ℕ) (bytes : List ℕ) → lines_of c hs ≡ before ++ Answer client seq bytes ∷ after → Answers c (latest_first before) client seq bytes
   answer_line before after client seq bytes e =
@@ -122,12 +122,12 @@ module _ (c : Config) (hs : List Happening) (r : IsRun c hs) (frames : FramesRep
     pub in_place : (command : Command) × (asked_in c hs client.0 seq ≡ Some command) × AreInPlace c (learnings (lines_of c hs)) client seq command
     in_place = (answered.command, answered.told, all_in_place c r.valid (learnings (lines_of c hs)) client seq answered.ring answered.command once answered.replies answered.route answered.each)
 
-pub stays : (c : Config) (first second : List Happening) → IsRun c (first ++ second) → FramesReply c → (client : ClientId) (seq : ℕ) (bytes : List ℕ) → Has (lines_of c first) (Answer client seq bytes)
+pub stays : (c : Config) (first second : List Happening) → IsRun c (first ++ second) → (client : ClientId) (seq : ℕ) (bytes : List ℕ) → Has (lines_of c first) (Answer client seq bytes)
     → answer_of c (learnings (lines_of c (first ++ second))) client seq ≡ Some bytes
-stays c first second r frames client seq bytes has = answer_now c (first ++ second) r frames client seq bytes (has_later c first second (Answer client seq bytes) has)
+stays c first second r client seq bytes has = answer_now c (first ++ second) r client seq bytes (has_later c first second (Answer client seq bytes) has)
 
-pub one_answer : (c : Config) (hs : List Happening) → IsRun c hs → FramesReply c → (client : ClientId) (seq : ℕ) (one other : List ℕ) → Has (lines_of c hs) (Answer client seq one) → Has (lines_of c hs) (Answer client seq other) → one ≡ other
-one_answer c hs r frames client seq one other first second = same one other (answer_of c (learnings (lines_of c hs)) client seq) (answer_now c hs r frames client seq one first) (answer_now c hs r frames client seq other second)
+pub one_answer : (c : Config) (hs : List Happening) → IsRun c hs → (client : ClientId) (seq : ℕ) (one other : List ℕ) → Has (lines_of c hs) (Answer client seq one) → Has (lines_of c hs) (Answer client seq other) → one ≡ other
+one_answer c hs r client seq one other first second = same one other (answer_of c (learnings (lines_of c hs)) client seq) (answer_now c hs r client seq one first) (answer_now c hs r client seq other second)
   where
     same : (x y : List ℕ) (o : Option (List ℕ)) → o ≡ Some x → o ≡ Some y → x ≡ y
     same x y o e f = cc

@@ -51,7 +51,7 @@ found_has (q ∷ ps) id p e = go (λ h. found_has ps id p h) (q.id.0 == id) e
     go later true h = inl (some q p h)
     go later false h = inr (later h)
 
-at_least : (low : ℕ) (ps : List PartitionTable) (q : PartitionTable) → IncreasesFrom low (partition_ids ps) → Has ps q → low ≤ q.id.0
+pub at_least : (low : ℕ) (ps : List PartitionTable) (q : PartitionTable) → IncreasesFrom low (partition_ids ps) → Has ps q → low ≤ q.id.0
 at_least low [] q rise has = absurd has
 at_least low (p ∷ ps) q rise (inl same) = subst (λ (x : PartitionTable). low ≤ x.id.0) (sym same) rise.0
 at_least low (p ∷ ps) q rise (inr has) =
@@ -59,7 +59,7 @@ at_least low (p ∷ ps) q rise (inr has) =
     let later : p.id.0 + 1 ≤ q.id.0 = at_least (p.id.0 + 1) ps q rise.1 has in
     omega arith
 
-differ : (a b : ℕ) → a < b → (a == b) ≡ false
+pub differ : (a b : ℕ) → a < b → (a == b) ≡ false
 differ a b h = grind arith
 
 not_less : (a b : ℕ) → b ≤ a → nat_lt a b ≡ false

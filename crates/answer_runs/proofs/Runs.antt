@@ -45,11 +45,13 @@ use Rattle.ask_laws.proofs.Worlds.{RunKeeps, happening_keeps, all_keep}
 use Rattle.answer_laws.specs.Answering.{RepliesTo}
 use Rattle.answer_laws.proofs.Joining.{answer_joined}
 use Rattle.answer_laws.proofs.Staying.{replies_more}
-use Rattle.answer_runs.specs.Answers.{BodyReplies, RepliesOfFold, FramesReply, HoldsParts, IsAnswered, LineAnswers, AreAnswers, KeepsAnswers}
+use Rattle.state_runs.proofs.Books.{learned_latest}
+use Rattle.answer_runs.specs.Answers.{BodyReplies, RepliesOfFold, HoldsParts, IsAnswered, LineAnswers, AreAnswers, KeepsAnswers}
 use Rattle.answer_runs.proofs.Parts.{parts_more}
 use Rattle.answer_runs.proofs.Replying.{all_more}
 use Rattle.answer_runs.proofs.Clients.{ClientPrints, EffectsAnswer, asks_answer, ticks_answer, takes_answer}
-use Rattle.answer_runs.proofs.Books.{learnings_both, learned_latest, asked_once}
+use Rattle.answer_runs.proofs.Books.{learnings_both, asked_once}
+use Rattle.answer_runs.proofs.Sent.{frames_reply}
 
 -- what a run keeps, with what was asked so far
 pub record RunAnswers (c : Config) (asked : ℕ → ℕ → Option Command) (w : World) : Type 0 where
@@ -231,14 +233,14 @@ module _ (c : Config) (valid : IsValid c) (asked : ℕ → ℕ → Option Comman
 -- ---- runs
 
 -- from a world that a run has left
-run_answers : (c : Config) → IsValid c → FramesReply c → (first rest : List Happening) (w : World) (asked : ℕ → ℕ → Option Command) → run c first nothing ≡ w → MayRun c nothing first → MayRun c w rest → RunAnswers c asked w
+run_answers : (c : Config) → IsValid c → (first rest : List Happening) (w : World) (asked : ℕ → ℕ → Option Command) → run c first nothing ≡ w → MayRun c nothing first → MayRun c w rest → RunAnswers c asked w
     → RunAnswers c (asked_after c rest w asked) (run c rest w)
-run_answers c valid frames first [] w asked at may more keeps = keeps
-run_answers c valid frames first (h ∷ rest) w asked at may more keeps =
-    run_answers c valid frames (first ++ h ∷ []) rest (happens c h w) (asked_with c w h asked) (run_both c nothing first (h ∷ []) ∙ ap (happens c h) at)
+run_answers c valid first [] w asked at may more keeps = keeps
+run_answers c valid first (h ∷ rest) w asked at may more keeps =
+    run_answers c valid (first ++ h ∷ []) rest (happens c h w) (asked_with c w h asked) (run_both c nothing first (h ∷ []) ∙ ap (happens c h) at)
     (may_both c nothing first (h ∷ []) may (subst (λ (v : World). MayHappen c v h) (sym at) more.0, tt)) more.1
-    (happening_answers c valid asked w (subst (λ (v : World). AreOfBytes (learnings v.lines)) at (book-of-bytes c first valid may)) (subst (λ (v : World). RepliesOfFold c v) at (frames first may)) keeps h more.0)
+    (happening_answers c valid asked w (subst (λ (v : World). AreOfBytes (learnings v.lines)) at (book-of-bytes c first valid may)) (subst (λ (v : World). RepliesOfFold c v) at (frames_reply c first (record { valid = valid; may = may }))) keeps h more.0)
 
 -- in every run from nothing
-pub all_answer : (c : Config) → IsValid c → FramesReply c → (hs : List Happening) → MayRun c nothing hs → RunAnswers c (asked_in c hs) (run c hs nothing)
-all_answer c valid frames hs may = run_answers c valid frames [] hs nothing (λ k s. None) refl tt may (record { asks = all_keep c [] tt; now = record { parts = λ k. tt; lines = tt }; rules = tt })
+pub all_answer : (c : Config) → IsValid c → (hs : List Happening) → MayRun c nothing hs → RunAnswers c (asked_in c hs) (run c hs nothing)
+all_answer c valid hs may = run_answers c valid [] hs nothing (λ k s. None) refl tt may (record { asks = all_keep c [] tt; now = record { parts = λ k. tt; lines = tt }; rules = tt })

@@ -16,8 +16,7 @@ use Rattle.frames.specs.declared.sent.Sent.{Sent}
 use Rattle.plain_model.specs.Lines.{learnings}
 use Rattle.protocol.specs.Lines.{Line, Answer}
 use Rattle.protocol.specs.Client.{Asked}
-use Rattle.bare_world.specs.Worlds.{World, Happening, nothing}
-use Rattle.bare_world.specs.Runs.{run, MayRun}
+use Rattle.bare_world.specs.Worlds.{World}
 use Rattle.answer_laws.specs.Answering.{RepliesTo, AreReplies, IsReplyOf}
 use Rattle.line_rules.specs.Rules.{F5}
 
@@ -30,10 +29,6 @@ BodyReplies c known other = Unit {0}
 
 abbrev pub RepliesOfFold : Config → World → Type 0
 RepliesOfFold c w = AllByRecursion (λ (s : Sent). BodyReplies c (learnings w.lines) s.frame.body) w.frames
-
--- in every run all frames do
-abbrev pub FramesReply : Config → Type 0
-FramesReply c = (hs : List Happening) → MayRun c nothing hs → RepliesOfFold c (run c hs nothing)
 
 -- ---- clients
 

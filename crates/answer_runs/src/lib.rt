@@ -2,8 +2,7 @@
 //! book says, and stays so as the book grows.
 //!
 //! Definitions and laws alone: each function has an empty body, and its contract is the law. A run is a list of happenings
-//! from the world in which no node has opened yet, as `IsRun` says. That each Reply frame carries what its partition replies by
-//! the book stands here as the premise `FramesReply`.
+//! from the world in which no node has opened yet, as `IsRun` says.
 #![tactic(auto)]
 
 ghost use Rattle.std.specs.Prelude.{◌≡◌, ◌++◌, ◌∷◌, ℕ, List, Option, Some, true};
@@ -32,31 +31,36 @@ ghost use Rattle.line_rules.specs.Rules.{Answers};
 ghost use Rattle.line_runs.specs.Invariant.{latest_first};
 ghost use Rattle.line_runs.specs.Laws.{IsRun, lines_of};
 ghost use Rattle.answer_laws.specs.Answering.{RepliesTo, AreInPlace};
-ghost use Rattle.answer_runs.specs.Answers.{FramesReply, AreParts};
+ghost use Rattle.answer_runs.specs.Answers.{AreParts, RepliesOfFold};
+
+/// Each Reply frame that was ever sent carries what its partition replies by the book to the client's number.
+pub fn frames_carry_replies()
+    ensures { (c : Config) (hs : List Happening) → IsRun c hs → RepliesOfFold c (run c hs nothing) }
+{}
 
 /// Rule F5. An answer line is of a client of the deployment, and its bytes are the answer of the book of the lines before it: at
 /// the first place that has the client's number the replies of all concerned partitions, joined.
 pub fn answers_are_the_folds()
-    ensures { (c : Config) (hs : List Happening) → IsRun c hs → FramesReply c → (before after : List Line) (client : ClientId) (seq : ℕ) (bytes : List ℕ)
+    ensures { (c : Config) (hs : List Happening) → IsRun c hs → (before after : List Line) (client : ClientId) (seq : ℕ) (bytes : List ℕ)
         → lines_of c hs ≡ before ++ Answer client seq bytes ∷ after → Answers c (latest_first before) client seq bytes }
 {}
 
 /// What a client holds of replies is for the number that it waits for alone: in the order of the partitions, of concerned ones, one
 /// of each at most, and each is what this partition replies to the number by the book.
 pub fn parts_are_the_folds()
-    ensures { (c : Config) (hs : List Happening) → IsRun c hs → FramesReply c → (client : ClientId) (a : Asked) → ((run c hs nothing).clients client.0).asked ≡ Some a
+    ensures { (c : Config) (hs : List Happening) → IsRun c hs → (client : ClientId) (a : Asked) → ((run c hs nothing).clients client.0).asked ≡ Some a
         → AreParts (RepliesTo c (learnings (lines_of c hs)) client a.seq) (concerned_of a.command c.partitions) a.parts }
 {}
 
 /// An answered command stays decided: however the run goes on, the answer of the book to the number is the one that was given.
 pub fn answers_stay()
-    ensures { (c : Config) (first second : List Happening) → IsRun c (first ++ second) → FramesReply c → (client : ClientId) (seq : ℕ) (bytes : List ℕ)
+    ensures { (c : Config) (first second : List Happening) → IsRun c (first ++ second) → (client : ClientId) (seq : ℕ) (bytes : List ℕ)
         → Has (lines_of c first) (Answer client seq bytes) → answer_of c (learnings (lines_of c (first ++ second))) client seq ≡ Some bytes }
 {}
 
 /// Two answers to one number are one.
 pub fn two_answers_are_one()
-    ensures { (c : Config) (hs : List Happening) → IsRun c hs → FramesReply c → (client : ClientId) (seq : ℕ) (one other : List ℕ)
+    ensures { (c : Config) (hs : List Happening) → IsRun c hs → (client : ClientId) (seq : ℕ) (one other : List ℕ)
         → Has (lines_of c hs) (Answer client seq one) → Has (lines_of c hs) (Answer client seq other) → one ≡ other }
 {}
 
@@ -64,7 +68,7 @@ pub fn two_answers_are_one()
 /// stands at one place in the book: each concerned partition subscribes to the ring of this place, has all its places before it in
 /// the book, and no entry before it has this number of the client or a greater one.
 pub fn answered_numbers_are_in_place()
-    ensures { (c : Config) (hs : List Happening) → IsRun c hs → FramesReply c → (client : ClientId) (seq : ℕ) (bytes : List ℕ) → Has (lines_of c hs) (Answer client seq bytes)
+    ensures { (c : Config) (hs : List Happening) → IsRun c hs → (client : ClientId) (seq : ℕ) (bytes : List ℕ) → Has (lines_of c hs) (Answer client seq bytes)
         → (command : Command) × (asked_in c hs client.0 seq ≡ Some command) × AreInPlace c (learnings (lines_of c hs)) client seq command }
 {}
 
