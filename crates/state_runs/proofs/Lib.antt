@@ -4,3 +4,4 @@ pub mod Worlds
 pub mod Clients
 pub mod Runs
 pub mod Laws
+pub mod Showing

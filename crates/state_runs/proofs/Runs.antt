@@ -48,7 +48,7 @@ use Rattle.state_runs.specs.Invariant.{PossibleAt, UpAt, HostAt, StatesAt, Keeps
 use Rattle.state_runs.proofs.Books.{learned_latest, all_agree}
 use Rattle.state_runs.proofs.Deployed.{valid_limited}
 use Rattle.state_runs.proofs.Worlds.{stepped_states, down_states, still_states, first_states}
-use Rattle.state_runs.proofs.Clients.{IsBeside, beside_asks, beside_ticks, beside_takes}
+use Rattle.state_runs.proofs.Clients.{IsBeside, owe_none, fit_own, beside_asks, beside_ticks, beside_takes}
 
 -- the node that was put is there
 put_id : (c : Config) (lines : List Line) (x : ℕ) (view : View) (hosts : ℕ → Host) → HostLines c lines x (if x == x then Up view else hosts x) → view.id ≡ node x
@@ -63,22 +63,22 @@ module _ (c : Config) (hs : List Happening) (r : IsRun c hs) where
   abbrev so_far : List Line
   so_far = past [] (run c hs nothing).lines
 
-  longer : (h : Happening) → MayHappen c now h → IsRun c (hs ++ h ∷ [])
+  pub longer : (h : Happening) → MayHappen c now h → IsRun c (hs ++ h ∷ [])
   longer h may = record { valid = r.valid; may = may_both c nothing hs (h ∷ []) r.may (may, tt) }
 
-  lines_then : (h : Happening) → MayHappen c now h → WorldLines c (happens c h now)
+  pub lines_then : (h : Happening) → MayHappen c now h → WorldLines c (happens c h now)
   lines_then h may = subst (λ (v : World). WorldLines c v) (run_both c nothing hs (h ∷ [])) (run_lines c (hs ++ h ∷ []) (longer h may))
 
-  agree_then : (h : Happening) → MayHappen c now h → AllAgree (past [] (happens c h now).lines)
+  pub agree_then : (h : Happening) → MayHappen c now h → AllAgree (past [] (happens c h now).lines)
   agree_then h may = subst (λ (v : World). AllAgree (past [] v.lines)) (run_both c nothing hs (h ∷ [])) (all_agree c (hs ++ h ∷ []) (longer h may))
 
   given : AreOfBytes (learned so_far)
   given = subst (λ (known : List Learning). AreOfBytes known) (sym (learned_latest (run c hs nothing).lines)) (book-of-bytes c hs r.valid r.may)
 
-  up_lines : (n : ℕ) (view : View) → now.hosts n ≡ Up view → UpLines c so_far n view
+  pub up_lines : (n : ℕ) (view : View) → now.hosts n ≡ Up view → UpLines c so_far n view
   up_lines n view e = subst (λ (host : Host). HostLines c so_far n host) e ((run_lines c hs r).hosts n)
 
-  view_lines : (n : ℕ) (view : View) → UpLines c so_far n view → ViewLines c so_far view
+  pub view_lines : (n : ℕ) (view : View) → UpLines c so_far n view → ViewLines c so_far view
   view_lines n view u = record {
     right = (run_lines c hs r).right;
     known = (run_lines c hs r).known;
@@ -87,7 +87,7 @@ module _ (c : Config) (hs : List Happening) (r : IsRun c hs) where
   }
 
   -- what came was said
-  event_said : (id : NodeId) (event : Event) → MayCome now id event → EventSaid c so_far id event
+  pub event_said : (id : NodeId) (event : Event) → MayCome now id event → EventSaid c so_far id event
   event_said id Ticks may = tt
   event_said id (Leads ring) may = tt
   event_said id (Takes frame) may = go frame.from refl
@@ -96,6 +96,14 @@ module _ (c : Config) (hs : List Happening) (r : IsRun c hs) where
       go (Client from) e = tt
       go (Node from) e =
           body_said c hs r may.sent from id frame.body may.there (record { from_node = ap (λ (f : Frame). f.from) may.same ∙ e; to_node = may.by; same = ap (λ (f : Frame). f.body) may.same })
+
+  pub step_agrees : (id : NodeId) (event : Event) (view : View) → now.hosts id.0 ≡ Up view → MayCome now id event → AllAgree (past so_far (step c view event).lines)
+  step_agrees id event view e may =
+      let all : AllAgree (past [] (steps_as c id event (Up view) now).lines) = subst (λ (host : Host). AllAgree (past [] (steps_as c id event host now).lines)) e (agree_then (Steps id event) may) in
+      subst (λ (ls : List Line). AllAgree ls) (past_more [] (run c hs nothing).lines (step c view event).lines) all
+
+  pub own_client : (id : ClientId) → IsClient c id → HasClient c ((run c hs nothing).clients id.0).id
+  own_client id there = subst (λ (k : ClientId). HasClient c k) (sym ((all_keep c hs r.may).clients.each id.0).id) there
 
   module _ (kept : KeepsStates c now) where
     event_folded : (id : NodeId) (event : Event) → MayCome now id event → EventFolded c so_far event
@@ -125,10 +133,8 @@ module _ (c : Config) (hs : List Happening) (r : IsRun c hs) where
     step_then id event view e may =
         let u = up_lines id.0 view e in
         let k = up_at id.0 view e in
-        let all : AllAgree (past [] (steps_as c id event (Up view) now).lines) = subst (λ (host : Host). AllAgree (past [] (steps_as c id event host now).lines)) e (agree_then (Steps id event) may) in
         step_at c (valid_fits c r.valid) (valid_limited c r.valid) so_far view (view_lines id.0 view u) (view_at id.0 view u k)
-        (subst (λ (x : NodeId). AllByRecursion (IsPlaced c x) (rings_in view.parts)) (sym u.id) u.placed) (subst (λ (x : NodeId). HasNode c x) (sym u.id) k.there) given event (event_folded id event may)
-        (subst (λ (ls : List Line). AllAgree ls) (past_more [] (run c hs nothing).lines (step c view event).lines) all)
+        (subst (λ (x : NodeId). AllByRecursion (IsPlaced c x) (rings_in view.parts)) (sym u.id) u.placed) (subst (λ (x : NodeId). HasNode c x) (sym u.id) k.there) given event (event_folded id event may) (step_agrees id event view e may)
 
     -- its checkpoint, also where its work is stopped
     left_then : (id : NodeId) (event : Event) (view : View) → now.hosts id.0 ≡ Up view → MayCome now id event → PossibleAt c so_far id.0 (possible_of (step c view event).view)
@@ -179,7 +185,6 @@ module _ (c : Config) (hs : List Happening) (r : IsRun c hs) where
         → KeepsStates c (opens_as c id journal checkpoints host now)
     opens_kept id after journal checkpoints (Up view) e may = kept
     opens_kept id after journal checkpoints (Down durable pending) e may =
-        let up : Line = line.Up id journal.state.epoch in
         let newest : NewestAt c so_far (partition_of c.partitions id) checkpoints.newest =
         subst (λ (o : Option Checkpoint). NewestAt c so_far (partition_of c.partitions id) o) (sym may.newest) (stood id.0 after durable pending e) in
         subst (λ (ls : List Line). StatesAt c ls (opens_as c id journal checkpoints (Down durable pending) now))
@@ -201,10 +206,7 @@ module _ (c : Config) (hs : List Happening) (r : IsRun c hs) where
     client_kept : (id : ClientId) (effects : ClientEffects) → IsBeside c effects → KeepsStates c (client_step id effects now)
     client_kept id effects b =
         subst (λ (ls : List Line). StatesAt c ls (client_step id effects now)) (sym (past_more [] (run c hs nothing).lines effects.lines))
-        (still_states c so_far now (client_step id effects now) effects.lines effects.frames refl refl b.owe b.names (b.frames (past so_far effects.lines)) kept)
-
-    own_client : (id : ClientId) → IsClient c id → HasClient c ((run c hs nothing).clients id.0).id
-    own_client id there = subst (λ (k : ClientId). HasClient c k) (sym ((all_keep c hs r.may).clients.each id.0).id) there
+        (still_states c so_far now (client_step id effects now) effects.lines effects.frames refl refl (owe_none c effects.lines b.lines) (fit_own c effects.lines b.lines) (b.frames (past so_far effects.lines)) kept)
 
     shown_kept : (l : Line) → OwesNothing l → OwnNamesFit c l → KeepsStates c (with_lines (l ∷ []) now)
     shown_kept l owes fits =

@@ -7,6 +7,7 @@
 #![tactic(auto)]
 
 ghost use Rattle.std.specs.Prelude.{◌≡◌, ◌++◌, ◌∷◌, ℕ, List, [], Option, Some};
+ghost use Rattle.mrp_types.specs.declared.id.NodeId.{NodeId};
 ghost use Rattle.mrp_types.specs.declared.id.ClientId.{ClientId};
 ghost use Rattle.mrp_types.specs.declared.id.PartitionId.{PartitionId};
 ghost use Rattle.mrp_types.specs.declared.id.RingId.{RingId};
@@ -16,12 +17,13 @@ ghost use Rattle.frames.specs.declared.body.Body.TheVariants.{Part, Reply};
 ghost use Rattle.frames.specs.declared.sent.Sent.{Sent};
 ghost use Rattle.checkpoint.specs.Checkpoints.{Checkpoint};
 ghost use Rattle.quorums.specs.Groups.{Has};
-ghost use Rattle.protocol.specs.Lines.{Line};
+ghost use Rattle.transcript.specs.declared.line.ShownState.{ShownState};
+ghost use Rattle.protocol.specs.Lines.{Line, State};
 ghost use Rattle.protocol.specs.Node.{Choice, Standing};
 ghost use Rattle.bare_world.specs.Worlds.{Happening, Possible, nothing};
 ghost use Rattle.bare_world.specs.Runs.{run};
 ghost use Rattle.line_rules.specs.Owed.{owed};
-ghost use Rattle.line_rules.specs.Rules.{IsInTurn};
+ghost use Rattle.line_rules.specs.Rules.{F4, IsInTurn};
 ghost use Rattle.quiet_rules.specs.Quiet.{OwnNamesFit};
 ghost use Rattle.line_runs.specs.Invariant.{latest_first, node};
 ghost use Rattle.line_runs.specs.Laws.{IsPossible, IsRun, host_of, lines_of};
@@ -44,6 +46,13 @@ pub fn replies_are_the_folds()
     ensures turn { (c : Config) (hs : List Happening) → IsRun c hs → (before after : List Line) (l : Line) → lines_of c hs ≡ before ++ l ∷ after → IsInTurn c (latest_first before) l }
     ensures names { (c : Config) (hs : List Happening) → IsRun c hs → (before after : List Line) (l : Line) → lines_of c hs ≡ before ++ l ∷ after → OwnNamesFit c l }
     ensures paid { (c : Config) (hs : List Happening) → IsRun c hs → owed c (latest_first (lines_of c hs)) ≡ [] }
+{}
+
+/// Rule F4. A state line with bytes is of a ready node, at a tuple that it has reached by skips, and the bytes are the written state
+/// that the entries below the tuple leave, all of which are in the book. One without bytes is of a node that isn't ready.
+pub fn states_are_the_folds()
+    ensures { (c : Config) (hs : List Happening) → IsRun c hs → (before after : List Line) (x : NodeId) (shown : Option ShownState) → lines_of c hs ≡ before ++ State x shown ∷ after
+        → F4 c (latest_first before) (State x shown) }
 {}
 
 /// A checkpoint that a replica's disk may stand for is at a valid tuple, its bytes are those of the state there, and they are read
