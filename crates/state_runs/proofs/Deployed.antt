@@ -16,5 +16,4 @@ valid_limited c valid = record { rounds = λ ring. rounds-some c ring valid; par
     limits node p e =
         let is : IsPartition (node_ids c.nodes) (ring_ids c.rings) p = all_has (IsPartition (node_ids c.nodes) (ring_ids c.rings)) c.partitions p valid.partitions.each (partition_there c.partitions node p e).there in
         let few = partition-limits (node_ids c.nodes) (ring_ids c.rings) p is in
-        let some = is.some in
-        record { logs = few.0; rising = few.1; some = omega arith }
+        record { logs = few.0; rising = few.1; some = omega (arith, is.some.0) }

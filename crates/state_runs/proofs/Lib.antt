@@ -4,4 +4,5 @@ pub mod Worlds
 pub mod Clients
 pub mod Runs
 pub mod Laws
+pub mod Named
 pub mod Showing

@@ -15,13 +15,13 @@ use Rattle.vote_journal.specs.Journal.{Journal}
 use Rattle.plain_model.specs.Replicas.{Replica}
 use Rattle.plain_model.specs.StateBytes.{state_bytes}
 use Rattle.plain_model.proofs.TupleOrder.{same_number, other_number}
-use Rattle.protocol.specs.Lines.{Line, Cause, Answer, Busy, Restore, Begin, Up as WentUp, Down as WentDown, State, Frame, End}
+use Rattle.protocol.specs.Lines.{Line, Cause, Restore, Begin, Up as WentUp, Down as WentDown, State}
 use Rattle.protocol.specs.Lines as line
 use Rattle.protocol.specs.Client.{ClientEffects, asks, client_ticks, client_takes}
 use Rattle.protocol.specs.Opening.{opened}
 use Rattle.protocol.specs.Node.{View, Event, Service, Stage, Recovering, Ready, shown_of, shown_of_stage}
 use Rattle.protocol.specs.Step.{step}
-use Rattle.bare_world.specs.Worlds.{Possible, Host, Up, Down, World, nothing, Happening, Steps, Breaks, Crashes, Opens, Fails, Asks, ClientTicks, ClientTakes, Shows, Lists, chosen, happens, steps_as, breaks_as, crashes_as, opens_as, fails_as, client_step, state_of_host, with_lines}
+use Rattle.bare_world.specs.Worlds.{Possible, Host, Up, Down, World, nothing, Happening, Steps, Breaks, Crashes, Opens, Fails, Asks, ClientTicks, ClientTakes, Shows, Lists, chosen, possible_of, happens, steps_as, breaks_as, crashes_as, opens_as, fails_as, client_step, state_of_host, with_lines}
 use Rattle.bare_world.specs.Runs.{IsNode, MayCome, MayOpenAt, MayHappen, run, MayRun}
 use Rattle.bare_world.proofs.Onward.{run_both, may_both}
 use Rattle.line_rules.specs.Rules.{F4, HasNode}
@@ -236,15 +236,15 @@ module _ (c : Config) (hs : List Happening) (r : IsRun c hs) where
 
     breaks_shown : (id : NodeId) (event : Event) (cause : Cause) (host : Host) → KeepsShown c (past [] (breaks_as c id event cause host now).lines) (breaks_as c id event cause host now)
     breaks_shown id event cause (Down durable pending) = kept
-    breaks_shown id event cause (Up view) = downs_shown id cause _ _ (breaks_as c id event cause (Up view) now) refl refl
+    breaks_shown id event cause (Up view) = downs_shown id cause (possible_of view) (possible_of (step c view event).view) (breaks_as c id event cause (Up view) now) refl refl
 
     crashes_shown : (id : NodeId) (cause : Cause) (host : Host) → KeepsShown c (past [] (crashes_as id cause host now).lines) (crashes_as id cause host now)
     crashes_shown id cause (Down durable pending) = kept
-    crashes_shown id cause (Up view) = downs_shown id cause _ _ (crashes_as id cause (Up view) now) refl refl
+    crashes_shown id cause (Up view) = downs_shown id cause (possible_of view) (possible_of view) (crashes_as id cause (Up view) now) refl refl
 
     fails_shown : (id : NodeId) (after : Bool) (left : Possible) (cause : Cause) (host : Host) → KeepsShown c (past [] (fails_as id after left cause host now).lines) (fails_as id after left cause host now)
     fails_shown id after left cause (Up view) = kept
-    fails_shown id after left cause (Down durable pending) = downs_shown id cause _ _ (fails_as id after left cause (Down durable pending) now) refl refl
+    fails_shown id after left cause (Down durable pending) = downs_shown id cause (chosen after durable pending) left (fails_as id after left cause (Down durable pending) now) refl refl
 
     opens_shown : (id : NodeId) (after : Bool) (journal : Journal) (checkpoints : Checkpoints) (host : Host) → now.hosts id.0 ≡ host → MayOpenAt c id after journal checkpoints host
         → KeepsShown c (past [] (opens_as c id journal checkpoints host now).lines) (opens_as c id journal checkpoints host now)

@@ -34,7 +34,7 @@ host_past c lines new n (Down durable pending) h = (
   newest_past c new lines (partition_of c.partitions (node n)) pending.newest h.1,
 )
 
-all_past : (P : Line → Type 0) (new lines : List Line) → AllByRecursion P new → AllByRecursion P lines → AllByRecursion P (past lines new)
+pub all_past : (P : Line → Type 0) (new lines : List Line) → AllByRecursion P new → AllByRecursion P lines → AllByRecursion P (past lines new)
 all_past P [] lines all before = before
 all_past P (l ∷ new) lines all before = all_past P new (l ∷ lines) all.1 (all.0, before)
 

@@ -8,11 +8,18 @@ use Rattle.mrp_types.specs.declared.id.Party.TheVariants.{Node}
 use Rattle.mrp_config.specs.Config.{Config}
 use Rattle.mrp_config.specs.declared.tables.PartitionTable.{PartitionTable}
 use Rattle.frames.specs.declared.sent.Sent.{Sent}
-use Rattle.protocol.specs.Lines.{Line}
+use Rattle.protocol.specs.Lines.{Line, Frame}
 use Rattle.protocol.specs.Node.{Attempt, Choice, Ready, Recovering, Service, Standing, View}
 use Rattle.bare_world.specs.Worlds.{Up, Happening}
 use Rattle.line_runs.specs.Laws.{host_of}
 use Rattle.state_steps.specs.Folded.{IsFoldReply, IsPartAt}
+
+-- ---- lines
+
+-- no frame is listed by it
+abbrev pub IsUnlisted : Line → Type 0
+IsUnlisted (Frame number shown) = ⊥
+IsUnlisted other = Unit {0}
 
 -- ---- frames
 

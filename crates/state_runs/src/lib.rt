@@ -23,14 +23,13 @@ ghost use Rattle.protocol.specs.Node.{Choice, Standing};
 ghost use Rattle.bare_world.specs.Worlds.{Happening, Possible, nothing};
 ghost use Rattle.bare_world.specs.Runs.{run};
 ghost use Rattle.line_rules.specs.Owed.{owed};
-ghost use Rattle.line_rules.specs.Rules.{F4, IsInTurn};
-ghost use Rattle.quiet_rules.specs.Quiet.{OwnNamesFit};
+ghost use Rattle.line_rules.specs.Rules.{F3, F4, IsInTurn};
 ghost use Rattle.line_runs.specs.Invariant.{latest_first, node};
 ghost use Rattle.line_runs.specs.Laws.{IsPossible, IsRun, host_of, lines_of};
 ghost use Rattle.state_steps.specs.Folded.{AreGathered, IsStateAt};
 ghost use Rattle.state_steps.specs.States.{IsCheckpointAt};
 ghost use Rattle.state_runs.specs.Invariant.{KeepsStates};
-ghost use Rattle.state_runs.specs.Laws.{HasChosen, IsReady, SentPart, SentReply};
+ghost use Rattle.state_runs.specs.Laws.{HasChosen, IsReady, IsUnlisted, SentPart, SentReply};
 
 /// Every run of a valid deployment keeps states: nothing is owed, each node that is up keeps what the fold says, the newest
 /// checkpoint of each state that a disk may stand for is the state at its tuple, and each frame that was ever sent is the fold's.
@@ -40,11 +39,10 @@ pub fn every_run_keeps_states()
 
 /// Rule F3. Each reply line is the next of those that are owed, and no other line stands while one is owed; nothing is owed at the
 /// end of a run. So each deliver line is followed by exactly the reply lines that it owes, each with the fold's reply. The names of
-/// a line of a node or a client fit the deployment; a frame is listed by whoever asks for it, and a reply line is named by what it
-/// pays.
+/// a line fit the deployment, but for those of a frame, which is listed by whoever asks for it.
 pub fn replies_are_the_folds()
+    ensures rule { (c : Config) (hs : List Happening) → IsRun c hs → (before after : List Line) (l : Line) → IsUnlisted l → lines_of c hs ≡ before ++ l ∷ after → F3 c (latest_first before) l }
     ensures turn { (c : Config) (hs : List Happening) → IsRun c hs → (before after : List Line) (l : Line) → lines_of c hs ≡ before ++ l ∷ after → IsInTurn c (latest_first before) l }
-    ensures names { (c : Config) (hs : List Happening) → IsRun c hs → (before after : List Line) (l : Line) → lines_of c hs ≡ before ++ l ∷ after → OwnNamesFit c l }
     ensures paid { (c : Config) (hs : List Happening) → IsRun c hs → owed c (latest_first (lines_of c hs)) ≡ [] }
 {}
 
