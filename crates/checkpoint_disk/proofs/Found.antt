@@ -75,13 +75,13 @@ found_all t c tuple state m image is =
     let u = and_then t (renew_calls (next_area c.area) body t) in
     let done = renewed t (next_area c.area) body (body_length (c.generation + 1) tuple state) m.settled in
     let here : FindsSaved c tuple state (reads u) =
-        let stood = new_stands (reads t) (reads u) c tuple state m.may m.stands done.others done.whole in
-        record {
-          spelled = done.whole;
-          read = ap read_area done.whole ∙ newer_read (c.generation + 1) tuple state m.may.spelled m.may.size;
-          newest = stood;
-          undamaged = no_damage (reads u) (saved c tuple state) stood;
-        } in
+    let stood = new_stands (reads t) (reads u) c tuple state m.may m.stands done.others done.whole in
+    record {
+      spelled = done.whole;
+      read = ap read_area done.whole ∙ newer_read (c.generation + 1) tuple state m.may.spelled m.may.size;
+      newest = stood;
+      undamaged = no_damage (reads u) (saved c tuple state) stood;
+    } in
     subst (FindsSaved c tuple state) (sym (settled_is u image (renew_settles t (next_area c.area) body) is)) here
 
 pub found_either : (t : Told) (c : Checkpoints) (tuple : List (RingId × ℕ)) (state : List ℕ) → MayBeSaved t c tuple state → (count : ℕ) (image : Areas)

@@ -134,7 +134,7 @@ none_left (b ∷ rest) none = absurd (omega (arith, none))
 pub state_is_end : (bytes : List ℕ) (from : ℕ) (c : Checkpoint) (left : Spot) → checkpoint_at (record { at = from; rest = drop from bytes }) ≡ Ok (c, left) → length left.rest ≡ 0 → IsEnd bytes c.state
 state_is_end bytes from c left read none =
     let ends = subst (λ (r : Result (Checkpoint × Spot) CodecFault). Leaves (λ (x : Checkpoint). x.state) (record { at = from; rest = drop from bytes }) r) read
-        (checkpoint_end (record { at = from; rest = drop from bytes })) in
+    (checkpoint_end (record { at = from; rest = drop from bytes })) in
     let whole : drop from bytes ≡ ends.0 ++ c.state = ends.1 ∙ ap (λ (t : List ℕ). ends.0 ++ (c.state ++ t)) (none_left left.rest none) ∙ ap (λ (t : List ℕ). ends.0 ++ t) (append-nil c.state) in
     is_end bytes (take from bytes ++ ends.0) c.state
     (sym (take-append-drop from bytes) ∙ ap (λ (t : List ℕ). take from bytes ++ t) whole ∙ sym (append_assoc (take from bytes) ends.0 c.state))

@@ -142,9 +142,11 @@ module _ (c : Config) (limited : IsLimited c) (before : List Line) (a : StepSoFa
       joined : (rest : List ℕ) × ((choice.bytes ++ bytes) ++ rest ≡ k.state)
       joined =
           let n : ℕ = part_size (length choice.bytes, length k.state) in
-          let cut : drop (length choice.bytes) k.state ≡ missing.0 = ap (λ (xs : List ℕ). drop (length choice.bytes) xs) (sym missing.1) ∙ drop_at choice.bytes missing.0 (length choice.bytes) refl in
-          (drop n missing.0, append_assoc choice.bytes bytes (drop n missing.0) ∙ ap (λ (xs : List ℕ). choice.bytes ++ xs)
-              (ap (λ (xs : List ℕ). xs ++ drop n missing.0) (k.part ∙ ap (λ (xs : List ℕ). take n xs) cut) ∙ take-append-drop n missing.0) ∙ missing.1)
+          let cut : drop (length choice.bytes) k.state ≡ missing.0 = ap (λ (xs : List ℕ). drop (length choice.bytes) xs) (sym missing.1) ∙ drop_at choice.bytes missing.0 (length choice.bytes) refl in (
+            drop n missing.0,
+            append_assoc choice.bytes bytes (drop n missing.0) ∙ ap (λ (xs : List ℕ). choice.bytes ++ xs)
+                (ap (λ (xs : List ℕ). xs ++ drop n missing.0) (k.part ∙ ap (λ (xs : List ℕ). take n xs) cut) ∙ take-append-drop n missing.0) ∙ missing.1,
+          )
 
       more : Choice
       more = record choice { bytes = choice.bytes ++ bytes }

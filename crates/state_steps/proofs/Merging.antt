@@ -164,12 +164,15 @@ module _ (c : Config) (limited : IsLimited c) (before : List Line) where
         parts = parts_past c new (l ∷ lines) a.view.parts (parts_past c (l ∷ []) lines a.view.parts at.parts);
         replica = replica_past c new (l ∷ lines) a.view.id (Some (record service { stage = stage })) (replica_past c (l ∷ []) lines a.view.id (Some (record service { stage = stage })) (record {
           replica = replica;
-          stage = (past_tuple (round_sizes c) service.partition.rings standing.tuple valid, record {
-            entries = es ++ entries_of_batch batch;
-            below = below_next (round_sizes c) (learned lines) service.partition.rings standing.tuple es (entries_of_batch batch) limits.rising limits.some valid below
-                (entries_there lines (next_place (round_sizes c) standing.tuple).0 (next_place (round_sizes c) standing.tuple).1 (Batch batch) holds);
-            same = refl;
-          });
+          stage = (
+            past_tuple (round_sizes c) service.partition.rings standing.tuple valid,
+            record {
+              entries = es ++ entries_of_batch batch;
+              below = below_next (round_sizes c) (learned lines) service.partition.rings standing.tuple es (entries_of_batch batch) limits.rising limits.some valid below
+                  (entries_there lines (next_place (round_sizes c) standing.tuple).0 (next_place (round_sizes c) standing.tuple).1 (Batch batch) holds);
+              same = refl;
+            },
+          );
         }));
         newest = at.newest;
       };
@@ -192,12 +195,15 @@ module _ (c : Config) (limited : IsLimited c) (before : List Line) where
         lines = lines;
         at = act_stage c before lines a at service (Ready (skipped c standing)) (record {
           replica = replica;
-          stage = (past_tuple (round_sizes c) service.partition.rings standing.tuple stage.0, record {
-            entries = stage.1.entries;
-            below = below_next (round_sizes c) (learned lines) service.partition.rings standing.tuple stage.1.entries [] limits.rising limits.some stage.0 stage.1.below
-                (entries_there lines (place_of c standing).0 (place_of c standing).1 Skip e) ∙ ap (λ (ys : List Entry). Some ys) (append-nil stage.1.entries);
-            same = stage.1.same;
-          });
+          stage = (
+            past_tuple (round_sizes c) service.partition.rings standing.tuple stage.0,
+            record {
+              entries = stage.1.entries;
+              below = below_next (round_sizes c) (learned lines) service.partition.rings standing.tuple stage.1.entries [] limits.rising limits.some stage.0 stage.1.below
+                  (entries_there lines (place_of c standing).0 (place_of c standing).1 Skip e) ∙ ap (λ (ys : List Entry). Some ys) (append-nil stage.1.entries);
+              same = stage.1.same;
+            },
+          );
         });
       }
   place_folded service standing (Batch batch) a lines at replica stage e =
