@@ -23,9 +23,10 @@ fn put_tuple(out: &mut Octets, tuple: &Tuple) -> Result<(), Memory> {
 
 /// The newest checkpoint and where it stands, or that there is none.
 pub fn show_newest(out: &mut Octets, checkpoints: &Checkpoints) -> Result<(), Memory> {
-    let (Some((area, tuple_at, state_at)), Some((tuple, state))) =
-        (checkpoints.place(), checkpoints.newest())
-    else {
+    let (Some((area, tuple_at, state_at)), Some((tuple, state))) = (
+        checkpoints.place(),
+        checkpoints.newest(),
+    ) else {
         put_word(out, b"none")?;
         put_number(out, checkpoints.generation())?;
         return out.push(b',');
