@@ -1,7 +1,9 @@
 //! A disk in memory that doesn't tell what it holds.
 
-ghost use Rattle.std.specs.Prelude.{None, false, absurd};
+ghost use Rattle.std.specs.Prelude.{◌≡◌, length, None, false};
 ghost use Rattle.std.proofs.lemmas.Option.{none-some};
+ghost use Rattle.disk_model.specs.Calls.{area_bytes};
+ghost use Rattle.disk_model.specs.Causes.{Causes, Wants};
 
 use crate::reading::NoCase;
 use disk_model::{Area, Disk, Image, Refused, SimDisk};
@@ -53,11 +55,17 @@ impl Untold {
         })
     }
 
-    fn is_past(&self, area: Area, at: u64) -> bool {
-        at > self.disk.bytes(area).len() as u64
+    fn size(&self, area: Area) -> u64
+        ensures { result ≡ length (area_bytes area self.now.disk.told) }
+    {
+        self.disk.bytes(area).len() as u64
     }
 
-    fn refuse(&mut self) -> Result<(), Refused> {
+    // A call that may not be made fails, and so does each one behind it.
+    fn refuse(&mut self) -> Result<(), Refused>
+        ensures causes { Causes self.old.disk.trouble.faults self.new.disk.trouble.faults result }
+        ensures wants { Wants self.old.disk.trouble.wants self.new.disk.trouble.wants result }
+    {
         self.disk.fuse(0);
         self.disk.sync()
     }
@@ -85,14 +93,14 @@ impl Disk for Untold {
     }
 
     fn write_at(&mut self, area: Area, at: u64, from: &[u8]) -> Result<(), Refused> {
-        if self.is_past(area, at) {
+        if at > self.size(area) {
             return self.refuse();
         }
         self.disk.write_at(area, at, from)
     }
 
     fn cut(&mut self, area: Area, len: u64) -> Result<(), Refused> {
-        if self.is_past(area, len) {
+        if len > self.size(area) {
             return self.refuse();
         }
         self.disk.cut(area, len)
