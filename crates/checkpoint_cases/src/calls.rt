@@ -41,6 +41,15 @@ pub fn answer(alloc: Global, line: &[u8], out: &mut Octets) -> Result<(), NoCase
     Ok(words.end()?)
 }
 
+// Why a save isn't done.
+fn refuse(fault: &SaveFault, out: &mut Octets) -> Result<(), NoCase> {
+    match fault {
+        SaveFault::Disk => Ok(put_word(out, b"disk,")?),
+        SaveFault::Older(newer) => Ok(show_newer(out, b"older", newer)?),
+        SaveFault::Memory => Err(NoCase),
+    }
+}
+
 impl Machine {
     fn call(&mut self, words: &mut Words<'_>, out: &mut Octets) -> Result<(), NoCase> {
         match words.word()? {
@@ -85,9 +94,7 @@ impl Machine {
         }
         match checkpoints.save(&mut self.disk, tuple, state) {
             Ok(found) => self.keep(found, out),
-            Err(SaveFault::Disk) => Ok(put_word(out, b"disk,")?),
-            Err(SaveFault::Older(newer)) => Ok(show_newer(out, b"older", &newer)?),
-            Err(SaveFault::Memory) => Err(NoCase),
+            Err(fault) => refuse(&fault, out),
         }
     }
 
