@@ -36,7 +36,7 @@ pub record Stood (id : NodeId) (other : bare.Host) (image : Areas) : Type 0 wher
   pub stands : StandsFor id state image
   pub possible : IsPossible other state
 
-stood : (config : Config) (id : NodeId) (host : Host) (other : bare.Host) → NodeTies config id (Some host) other → (image : Areas) → IsImage (told_of host) image → Stood id other image
+pub stood : (config : Config) (id : NodeId) (host : Host) (other : bare.Host) → NodeTies config id (Some host) other → (image : Areas) → IsImage (told_of host) image → Stood id other image
 stood config id (Up view disk) (bare.Up x) ties image is = by (held_images view.journal view.checkpoints disk.told ties.1.1.held image is)
   where
     same : StandsFor view.journal.id (possible_of view) image → Stood id (bare.Up x) image
