@@ -23,7 +23,7 @@ use Rattle.protocol.specs.Lines.{Line, Deliver, Reply}
 use Rattle.bare_world.specs.Worlds.{Happening, nothing}
 use Rattle.bare_world.specs.Runs.{run}
 use Rattle.line_rules.specs.Owed.{owed, owed_by, replies_after, replies_of, reply_line, reply_lines}
-use Rattle.line_rules.specs.Rules.{IsInTurn, Pays}
+use Rattle.line_rules.specs.Rules.{IsInTurn}
 use Rattle.line_rules.specs.Scanners.{learned, past}
 use Rattle.quiet_rules.specs.Quiet.{AreInTurn}
 use Rattle.faithful.proofs.Quorum.{all_has}
