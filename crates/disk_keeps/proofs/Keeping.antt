@@ -1,10 +1,9 @@
 -- An image stands for a state that its node may keep, and each such state keeps what the rules of runs say.
-use Rattle.std.proofs.Common.{◌≡◌, ◌⊎◌, inl, inr, ℕ, List, [], ◌∷◌, ◌++◌, Option, Some, None, refl, sym, ap, ◌∙◌, subst}
+use Rattle.std.proofs.Common.{◌≡◌, ◌⊎◌, inl, inr, List, [], ◌∷◌, ◌++◌, Option, Some, refl, sym, ap, ◌∙◌, subst}
 use Rattle.std.specs.List.{AllByRecursion}
 use Rattle.mrp_types.specs.declared.id.NodeId.{NodeId}
-use Rattle.mrp_config.specs.Config.{Config, partition_of}
+use Rattle.mrp_config.specs.Config.{Config}
 use Rattle.mrp_config.specs.Valid.{IsValid}
-use Rattle.mrp_config.specs.declared.tables.PartitionTable.{PartitionTable}
 use Rattle.mrp_config.specs.declared.tables.RingTable.{RingTable}
 use Rattle.disk_model.specs.declared.areas.Areas.{Areas}
 use Rattle.disk_model.specs.Calls.{IsImage}
@@ -15,17 +14,16 @@ use Rattle.bare_world.specs.Worlds.{Possible, possible_of}
 use Rattle.bare_world.specs.Runs.{run, MayRun}
 use Rattle.bare_world.proofs.Onward.{run_both}
 use Rattle.world_model.specs.Runs as disks
-use Rattle.world_model.specs.Worlds.{Host, Up, Down, World, node_at}
+use Rattle.world_model.specs.Worlds.{Host, Up, Down, World}
 use Rattle.disk_states.specs.States.{StandsFor}
 use Rattle.disk_states.proofs.Working.{held_images}
 use Rattle.ring_runs.specs.Histories.{History, at_first, history}
 use Rattle.ring_runs.specs.Rules.{VoteRule, DoneRule}
 use Rattle.ring_runs.specs.Votes.{MayKeep}
 use Rattle.ring_runs.proofs.Whole.{world_of, votes, done}
-use Rattle.line_runs.specs.Laws.{IsPossible, KeepsTold}
-use Rattle.line_runs.specs.Invariant.{latest_first}
+use Rattle.line_runs.specs.Laws.{IsPossible}
 use Rattle.line_runs.proofs.Laws.{told_kept}
-use Rattle.disk_runs.specs.Runs.{NodeTies, WorldTies, world_after, GoesOn, Fits}
+use Rattle.disk_runs.specs.Runs.{NodeTies, world_after, GoesOn, Fits}
 use Rattle.disk_runs.proofs.Whole.{run_goes, ran_goes}
 use Rattle.disk_runs.proofs.Works.{all_work}
 use Rattle.disk_keeps.specs.Kept.{told_of, KeepsRing, KeepsAll, LosesNothing}
@@ -36,7 +34,7 @@ pub record Stood (id : NodeId) (other : bare.Host) (image : Areas) : Type 0 wher
   pub stands : StandsFor id state image
   pub possible : IsPossible other state
 
-stood : (config : Config) (id : NodeId) (host : Host) (other : bare.Host) → NodeTies config id (Some host) other → (image : Areas) → IsImage (told_of host) image → Stood id other image
+pub stood : (config : Config) (id : NodeId) (host : Host) (other : bare.Host) → NodeTies config id (Some host) other → (image : Areas) → IsImage (told_of host) image → Stood id other image
 stood config id (Up view disk) (bare.Up x) ties image is = by (held_images view.journal view.checkpoints disk.told ties.1.1.held image is)
   where
     same : StandsFor view.journal.id (possible_of view) image → Stood id (bare.Up x) image

@@ -1,0 +1,3 @@
+mod Repeats
+mod Disks
+mod Placed
