@@ -79,11 +79,9 @@ pub guarded_none : {D : Type 0} (disk : Ghosts D) (old : D) (c : Checkpoints) (t
 guarded_none disk old c tuple state tells is =
     went_as (saving_ops c tuple state) tells (λ t told. ap (λ b. if b then [] else save_ops c tuple state t) (sym is)) (went_none disk old)
 
-pub guarded_some : {D : Type 0} {disk : Ghosts D} {old now : D} {e : Ending} (c inside : Checkpoints) (tuple : List (RingId × ℕ)) (state given : List ℕ) → ((d : D) (s : Sim) → disk.memory d ≡ Some s → Tells (disk.told d) (disk.honest d) s.told)
-    → inside ≡ c → given ≡ state → is_older c.newest tuple ≡ false → WentBy disk (save_ops inside tuple given) old now e → WentBy disk (saving_ops c tuple state) old now e
-guarded_some {disk = disk} {old = old} {now = now} {e = e} c inside tuple state given tells same bytes is went =
-    went_as (saving_ops c tuple state) tells (λ t told. ap (λ b. if b then [] else save_ops c tuple state t) (sym is))
-    (subst (λ (s : List ℕ). WentBy disk (save_ops c tuple s) old now e) bytes (subst (λ (x : Checkpoints). WentBy disk (save_ops x tuple given) old now e) same went))
+pub guarded_some : {D : Type 0} {disk : Ghosts D} {old now : D} {e : Ending} (c : Checkpoints) (tuple : List (RingId × ℕ)) (state : List ℕ) → ((d : D) (s : Sim) → disk.memory d ≡ Some s → Tells (disk.told d) (disk.honest d) s.told)
+    → is_older c.newest tuple ≡ false → WentBy disk (save_ops c tuple state) old now e → WentBy disk (saving_ops c tuple state) old now e
+guarded_some c tuple state tells is went = went_as (saving_ops c tuple state) tells (λ t told. ap (λ b. if b then [] else save_ops c tuple state t) (sym is)) went
 
 pub ended_as : {D T : Type 0} {disk : Ghosts D} {ops : Told → List Op} {old now : D} (fault : SaveFault) (r : Result T SaveFault) → IsErrAnd r (λ e. e ≡ fault)
     → WentBy disk ops old now (fault_ending fault) → WentBy disk ops old now (save_ending r)

@@ -1,12 +1,19 @@
 -- What a save leaves at each moment, and how its operations end.
-use Rattle.std.specs.Prelude.{◌≡◌, ◌⊎◌, ℕ, Bool, false, not, List, [], Option, None, Some, Result, Ok, Err, if◌then◌else◌}
+use Rattle.std.specs.Prelude.{◌≡◌, ◌⊎◌, ℕ, Bool, false, not, List, [], ◌∷◌, ◌++◌, Option, None, Some, Result, Ok, Err, if◌then◌else◌}
 use Rattle.mrp_types.specs.declared.id.RingId.{RingId}
 use Rattle.disk_model.specs.declared.areas.Areas.{Areas}
 use Rattle.disk_model.specs.Calls.{Told}
 use Rattle.disk_model.specs.Running.{Op, Ending, Passed, Stopped, Wanted}
+use Rattle.command_codec.specs.Fields.{u64_bytes}
+use Rattle.frames.specs.Spelling.{tuple_bytes}
+use Rattle.checkpoint.specs.Spelling.{front_bytes}
 use Rattle.checkpoint.specs.Checkpoints.{Checkpoint, Checkpoints, checkpoints_in, saved, save_ops, is_after}
 use Rattle.checkpoint_disk.specs.declared.fault.SaveFault.{SaveFault}
 use Rattle.checkpoint_disk.specs.declared.fault.SaveFault.TheVariants.{Disk, Older, Memory}
+
+-- what an area has between its gate and a state of this length
+abbrev pub head_bytes : ℕ → List (RingId × ℕ) → ℕ → List ℕ
+head_bytes generation tuple size = front_bytes generation ++ 0 ∷ 2 ∷ (tuple_bytes tuple ++ u64_bytes size)
 
 -- the areas of the journal are as they were
 pub record JournalStays (before image : Areas) : Type 0 where

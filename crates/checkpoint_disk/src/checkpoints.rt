@@ -139,8 +139,8 @@ impl Checkpoints {
         match older_than(&self, &tuple) {
             Some(newest) => Err(SaveFault::Older(newest)),
             None => {
-                put(self.alloc, disk, &self, &tuple, state.bytes())?;
-                Ok(self.followed(tuple, state))
+                let saved = put(self.alloc, disk, &self, &tuple, state)?;
+                Ok(self.followed(tuple, saved))
             }
         }
     }

@@ -75,8 +75,8 @@ fn fields_from<'a>(bytes: &'a [u8], from: usize) -> Cursor<'a>
     fields
 }
 
-// The bytes from a position on, in the room that all of them had.
-fn without_front(mut bytes: Vec<u8>, count: usize) -> Octets
+/// The bytes from a position on, in the room that all of them had.
+pub fn without_front(mut bytes: Vec<u8>, count: usize) -> Octets
     requires { count ≤ length bytes.items }
     ensures { result ≡ drop count bytes.items }
 {
