@@ -14,7 +14,7 @@ use Rattle.protocol.specs.Node.{Event, Takes}
 use Rattle.bare_world.specs.Worlds as bare
 use Rattle.bare_world.specs.Runs.{IsClient, MayCome, MayHappen, MayRun, WasSent}
 use Rattle.world_model.specs.Worlds.{World, client_at, with_client, client_step, client_gets, client_asks, client_step_tick, ticks_client, delivers_to, delivers, moves_on, flows}
-use Rattle.disk_runs.specs.Runs.{ClientTies, WorldTies, world_after, GoesOn}
+use Rattle.disk_runs.specs.Runs.{ClientTies, WorldTies, world_after, IsListed, GoesOn}
 use Rattle.disk_runs.proofs.Going.{Goes, by_none, by_one, then_goes}
 use Rattle.disk_runs.proofs.Tying.{clients_put, sent_ties}
 use Rattle.disk_runs.proofs.Nodes.{WorksAt, step_goes}
@@ -32,9 +32,9 @@ module _ (config : Config) where
     abbrev b : bare.World
     b = world_after config past
 
-    client_goes : (h : bare.Happening) → MayHappen config b h → (made : ClientEffects) → bare.happens config h b ≡ bare.client_step id made b → IsClient config id → GoesOn config past (client_step id made w)
-    client_goes h may made is there =
-        by_one config past ran h may (bare.client_step id made b) is (client_step id made w)
+    client_goes : (h : bare.Happening) → MayHappen config b h → IsListed b h → (made : ClientEffects) → bare.happens config h b ≡ bare.client_step id made b → IsClient config id → GoesOn config past (client_step id made w)
+    client_goes h may listed made is there =
+        by_one config past ran h may listed (bare.client_step id made b) is (client_step id made w)
         (sent_ties config made.frames (with_client id made.client w) (bare.client_step id made b) ties.nodes (clients_put config w b.clients id made.client ties.clients there)
         (ap (λ frames. frames ++ made.frames) ties.frames))
         refl
@@ -44,14 +44,14 @@ module _ (config : Config) where
       where
         by : (o : Option ClientView) → ClientTies config id o (b.clients id.0) → GoesOn config past (client_asks config id command o w)
         by None tied = by_none config past ran w ties
-        by (Some view) tied = client_goes (bare.Asks id command) (tied.0, may) (asks config view command) (ap (λ (c : ClientView). bare.client_step id (asks config c command) b) tied.1) tied.0
+        by (Some view) tied = client_goes (bare.Asks id command) (tied.0, may) tt (asks config view command) (ap (λ (c : ClientView). bare.client_step id (asks config c command) b) tied.1) tied.0
 
     pub tick_goes : GoesOn config past (ticks_client config id w)
     tick_goes = by (client_at w id) (ties.clients id)
       where
         by : (o : Option ClientView) → ClientTies config id o (b.clients id.0) → GoesOn config past (client_step_tick config id o w)
         by None tied = by_none config past ran w ties
-        by (Some view) tied = client_goes (bare.ClientTicks id) tied.0 (client_ticks config view) (ap (λ (c : ClientView). bare.client_step id (client_ticks config c) b) tied.1) tied.0
+        by (Some view) tied = client_goes (bare.ClientTicks id) tied.0 tt (client_ticks config view) (ap (λ (c : ClientView). bare.client_step id (client_ticks config c) b) tied.1) tied.0
 
     gets_goes : (sent : Sent) → Has w.frames sent → sent.to ≡ Client id → GoesOn config past (client_gets config id sent.frame.body (client_at w id) w)
     gets_goes sent has to = by (client_at w id) (ties.clients id)
@@ -62,7 +62,7 @@ module _ (config : Config) where
         by : (o : Option ClientView) → ClientTies config id o (b.clients id.0) → GoesOn config past (client_gets config id sent.frame.body o w)
         by None tied = by_none config past ran w ties
         by (Some view) tied =
-            client_goes (bare.ClientTakes id sent.frame.body) (tied.0, record { frame = sent.frame; sent = was; same = refl }) (client_takes config view sent.frame.body)
+            client_goes (bare.ClientTakes id sent.frame.body) (tied.0, record { frame = sent.frame; sent = was; same = refl }) tt (client_takes config view sent.frame.body)
             (ap (λ (c : ClientView). bare.client_step id (client_takes config c sent.frame.body) b) tied.1) tied.0
 
   -- ---- frames

@@ -5,8 +5,13 @@ use Rattle.mrp_config.specs.Config.{Config}
 use Rattle.bare_world.specs.Worlds as bare
 use Rattle.bare_world.specs.Runs.{MayHappen, run, MayRun}
 use Rattle.world_model.specs.Worlds.{World, Outcome, quiet, and_then, for_each}
-use Rattle.disk_runs.specs.Runs.{WorldTies, world_after, GoesOn}
+use Rattle.disk_runs.specs.Runs.{WorldTies, world_after, IsListed, AreListed, GoesOn}
 use Rattle.bare_world.proofs.Onward.{run_both, may_both}
+
+-- what is listed by one run and by what goes on from it
+listed_both : (config : Config) (w : bare.World) (first second : List bare.Happening) → AreListed config first w → AreListed config second (run config first w) → AreListed config (first ++ second) w
+listed_both config w [] second a b = b
+listed_both config w (h ∷ first) second a b = (a.0, listed_both config (bare.happens config h w) first second a.1 b)
 
 -- a run goes on where another one ended
 module _ (config : Config) where
@@ -20,15 +25,17 @@ module _ (config : Config) where
     may = subst (λ (p : List bare.Happening). MayRun config bare.nothing p) (sym (append-nil past)) ran;
     ties = subst (λ (p : List bare.Happening). WorldTies config w (world_after config p)) (sym (append-nil past)) ties;
     lines = ap (λ (p : List bare.Happening). (world_after config p).lines) (append-nil past) ∙ sym (append-nil (world_after config past).lines);
+    listed = tt;
   }
 
-  pub by_one : (past : List bare.Happening) → MayRun config bare.nothing past → (h : bare.Happening) → MayHappen config (world_after config past) h → (b : bare.World) → bare.happens config h (world_after config past) ≡ b
+  pub by_one : (past : List bare.Happening) → MayRun config bare.nothing past → (h : bare.Happening) → MayHappen config (world_after config past) h → IsListed (world_after config past) h → (b : bare.World) → bare.happens config h (world_after config past) ≡ b
       → (o : Outcome) → WorldTies config o.world b → b.lines ≡ (world_after config past).lines ++ o.lines → GoesOn config past o
-  by_one past ran h may b is o ties lines = record {
+  by_one past ran h may shown b is o ties lines = record {
     more = h ∷ [];
     may = may_both config bare.nothing past (h ∷ []) ran (may, tt);
     ties = subst (λ (x : bare.World). WorldTies config o.world x) (sym at) ties;
     lines = ap (λ (x : bare.World). x.lines) at ∙ lines;
+    listed = (shown, tt);
   }
     where
       at : run config (past ++ h ∷ []) bare.nothing ≡ b
@@ -43,6 +50,7 @@ module _ (config : Config) where
     lines =
         ap (λ (p : List bare.Happening). (world_after config p).lines) (sym along) ∙ second.lines ∙ ap (λ l. l ++ (word o.world).lines) first.lines
         ∙ append_assoc (world_after config past).lines o.lines (word o.world).lines;
+    listed = listed_both config (world_after config past) first.more second.more first.listed (subst (λ (w : bare.World). AreListed config second.more w) (run_both config bare.nothing past first.more) second.listed);
   }
     where
       second : GoesOn config (past ++ first.more) (word o.world)

@@ -54,17 +54,17 @@ module _ (config : Config) where
     step_ended event come there view t here up o (Ended disk is now) =
         let made = step config view event in
         subst (λ (x : Outcome). GoesOn config past x) (sym is)
-        (by_one config past ran (bare.Steps id event) come (bare.stepped id made b) (ap (λ (h : bare.Host). bare.steps_as config id event h b) here) (gone_on id [] made disk w)
+        (by_one config past ran (bare.Steps id event) come tt (bare.stepped id made b) (ap (λ (h : bare.Host). bare.steps_as config id event h b) here) (gone_on id [] made disk w)
         (let on = gone_ties w b ties id [] made disk there now in record { nodes = on.nodes; clients = on.clients; frames = on.frames }) refl)
     step_ended event come there view t here up o (Broke told cause is down) =
         let made = step config view event in
         subst (λ (x : Outcome). GoesOn config past x) (sym is)
-        (by_one config past ran (bare.Breaks id event cause) come (bare.goes_down id cause (bare.possible_of view) (bare.possible_of made.view) b)
+        (by_one config past ran (bare.Breaks id event cause) come tt (bare.goes_down id cause (bare.possible_of view) (bare.possible_of made.view) b)
         (ap (λ (h : bare.Host). bare.breaks_as config id event cause h b) here) (fallen id told cause w)
         (fallen_ties w b ties id told cause (bare.possible_of view) (bare.possible_of made.view) there down) refl)
     step_ended event come there view t here up o (Filled is down) =
         subst (λ (x : Outcome). GoesOn config past x) (sym is)
-        (by_one config past ran (bare.Crashes id Full) tt (bare.goes_down id Full (bare.possible_of view) (bare.possible_of view) b)
+        (by_one config past ran (bare.Crashes id Full) tt tt (bare.goes_down id Full (bare.possible_of view) (bare.possible_of view) b)
         (ap (λ (h : bare.Host). bare.crashes_as id Full h b) here) (fallen id t Full w)
         (fallen_ties w b ties id t Full (bare.possible_of view) (bare.possible_of view) there down) refl)
 
@@ -108,7 +108,7 @@ module _ (config : Config) where
         by (Some (Down told plan)) tied = by_none config past ran w ties
         by (Some (Up view disk)) tied =
             let is = is_up view disk (b.hosts id.0) refl tied.1 in
-            by_one config past ran (bare.Crashes id Crash) tt (bare.goes_down id Crash (bare.possible_of view) (bare.possible_of view) b)
+            by_one config past ran (bare.Crashes id Crash) tt tt (bare.goes_down id Crash (bare.possible_of view) (bare.possible_of view) b)
             (ap (λ (h : bare.Host). bare.crashes_as id Crash h b) is.here) (fallen id disk.told Crash w)
             (fallen_ties w b ties id disk.told Crash (bare.possible_of view) (bare.possible_of view) tied.0 (crashed config id view disk.told is.up)) refl
 
@@ -119,12 +119,12 @@ module _ (config : Config) where
         let made = opened config id kept.journal kept.checkpoints in
         let before = line.Up id kept.journal.state.epoch ∷ [] in
         subst (λ (x : Outcome). GoesOn config past x) (sym is)
-        (by_one config past ran (bare.Opens id after kept.journal kept.checkpoints) (subst (λ (h : bare.Host). MayOpenAt config id after kept.journal kept.checkpoints h) (sym here) may)
+        (by_one config past ran (bare.Opens id after kept.journal kept.checkpoints) (subst (λ (h : bare.Host). MayOpenAt config id after kept.journal kept.checkpoints h) (sym here) may) tt
         (bare.with_read id kept.journal.state (bare.after_step id before made b)) (ap (λ (h : bare.Host). bare.opens_as config id kept.journal kept.checkpoints h b) here) (gone_on id before made disk w)
         (let on = gone_ties w b ties id before made disk there up in record { nodes = on.nodes; clients = on.clients; frames = on.frames }) refl)
     open_goes there durable pending here after o (Failed told cause left is may down) =
         subst (λ (x : Outcome). GoesOn config past x) (sym is)
-        (by_one config past ran (bare.Fails id after left cause) (there, subst (λ (h : bare.Host). MayLeaveAt after left h) (sym here) may)
+        (by_one config past ran (bare.Fails id after left cause) (there, subst (λ (h : bare.Host). MayLeaveAt after left h) (sym here) may) tt
         (bare.goes_down id cause (bare.chosen after durable pending) left b) (ap (λ (h : bare.Host). bare.fails_as id after left cause h b) here) (fallen id told cause w)
         (fallen_ties w b ties id told cause (bare.chosen after durable pending) left there down) refl)
 

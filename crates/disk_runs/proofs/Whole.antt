@@ -68,7 +68,7 @@ module _ (c : Config) (valid : IsValid c) (works : Works c) where
 
   shown_goes : (id : NodeId) → IsNode c id → Goes c (λ w. prints (line.State id (state_of_host (node_at w id)) ∷ []) w)
   shown_goes id there past ran w ties =
-      by_one c past ran (bare.Shows id) there (bare.with_lines (line.State id (bare.state_of_host (b.hosts id.0)) ∷ []) b) refl (prints (line.State id (state_of_host (node_at w id)) ∷ []) w)
+      by_one c past ran (bare.Shows id) there tt (bare.with_lines (line.State id (bare.state_of_host (b.hosts id.0)) ∷ []) b) refl (prints (line.State id (state_of_host (node_at w id)) ∷ []) w)
       (record { nodes = ties.nodes; clients = ties.clients; frames = ties.frames }) (ap (λ (s : Option ShownState). b.lines ++ line.State id s ∷ []) (same (node_at w id) (b.hosts id.0) (ties.nodes id)))
     where
       b : bare.World
@@ -84,7 +84,7 @@ module _ (c : Config) (valid : IsValid c) (works : Works c) where
   listed_goes : (number : ℕ) → Goes c (lists number)
   listed_goes number past ran w ties =
       let shown : Option ShownFrame = option_map shown_of (slice_get w.frames number) in
-      by_one c past ran (bare.Lists number shown) tt (bare.with_lines (line.Frame number shown ∷ []) (world_after c past)) refl (lists number w)
+      by_one c past ran (bare.Lists number shown) tt (ap (λ (frames : List Sent). option_map shown_of (slice_get frames number)) (sym ties.frames)) (bare.with_lines (line.Frame number shown ∷ []) (world_after c past)) refl (lists number w)
       (record { nodes = ties.nodes; clients = ties.clients; frames = ties.frames }) refl
 
   faulty : (sets : Plan → Plan) (id : NodeId) → Goes c (λ w. quiet (faults sets id w))
@@ -219,7 +219,7 @@ module _ (c : Config) (valid : IsValid c) (works : Works c) where
   run_goes xs may fits = then_goes c [] (started c) (λ w. ran_from c xs w) start_goes (λ next ran tied. ran_goes xs next ran (started c).world tied may fits)
 
   -- a schedule's lines are those of its run, and each of its events may happen when its turn comes
-  scheduled_fit : (events : List ScheduleEvent) → AllByRecursion (IsShown c) events → AllByRecursion (Fits c) (map Scheduled events)
+  pub scheduled_fit : (events : List ScheduleEvent) → AllByRecursion (IsShown c) events → AllByRecursion (Fits c) (map Scheduled events)
   scheduled_fit [] shown = tt
   scheduled_fit (e ∷ events) shown = (shown.0, scheduled_fit events shown.1)
 

@@ -1,5 +1,5 @@
 -- What ties a world on disks to a world without bytes, and that what happens to the one is a run of the other.
-use Rattle.std.specs.Prelude.{◌≡◌, List, ◌++◌, Option, None, Some}
+use Rattle.std.specs.Prelude.{◌≡◌, List, [], ◌∷◌, ◌++◌, slice_get, option_map, Option, None, Some}
 use Rattle.mrp_types.specs.declared.id.NodeId.{NodeId}
 use Rattle.mrp_types.specs.declared.id.ClientId.{ClientId}
 use Rattle.mrp_config.specs.Config.{Config}
@@ -11,7 +11,7 @@ use Rattle.bare_world.specs.Worlds as bare
 use Rattle.bare_world.specs.Runs.{IsNode, IsClient, run, MayRun}
 use Rattle.world_model.specs.Events.{ScheduleEvent}
 use Rattle.world_model.specs.Events as event
-use Rattle.world_model.specs.Worlds.{Host, World, Outcome, node_at, client_at}
+use Rattle.world_model.specs.Worlds.{Host, World, Outcome, node_at, client_at, shown_of}
 use Rattle.world_model.specs.Runs.{Happening, Scheduled, Returns}
 use Rattle.disk_states.specs.States.{StandsFor}
 use Rattle.disk_states.specs.Openings.{IsFull}
@@ -44,12 +44,24 @@ pub record WorldTies (config : Config) (w : World) (b : bare.World) : Type 0 whe
 abbrev pub world_after : Config → List bare.Happening → bare.World
 world_after config past = run config past bare.nothing
 
--- A run without bytes goes on, by some happenings or by none, to a world tied to that of an outcome, and prints its lines.
+-- a line lists the frame of its number, where one was sent by then
+abbrev pub IsListed : bare.World → bare.Happening → Type 0
+IsListed w (bare.Lists number shown) = shown ≡ option_map shown_of (slice_get w.frames number)
+IsListed w other = Unit {0}
+
+-- each does that is listed by these happenings, from this world on
+abbrev pub AreListed : Config → List bare.Happening → bare.World → Type 0
+AreListed config [] w = Unit {0}
+AreListed config (h ∷ hs) w = IsListed w h × AreListed config hs (bare.happens config h w)
+
+-- A run without bytes goes on, by some happenings or by none, to a world tied to that of an outcome, and prints its lines; it lists
+-- frames as they were sent.
 pub record GoesOn (config : Config) (past : List bare.Happening) (o : Outcome) : Type 0 where
   pub more : List bare.Happening
   pub may : MayRun config bare.nothing (past ++ more)
   pub ties : WorldTies config o.world (world_after config (past ++ more))
   pub lines : (world_after config (past ++ more)).lines ≡ (world_after config past).lines ++ o.lines
+  pub listed : AreListed config more (world_after config past)
 
 -- an order to show a node names one of the deployment
 abbrev pub IsShown : Config → ScheduleEvent → Type 0

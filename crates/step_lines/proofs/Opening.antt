@@ -30,7 +30,7 @@ use Rattle.step_lines.specs.Effects.{AllTold, Onward, KeptFor, LeftTold}
 use Rattle.step_lines.proofs.Composing.{finished_lines}
 
 -- a ring that stands in a list is found there
-ring_there : (rings : List RingTable) (ring : RingTable) → Has rings ring → (table : RingTable) × (ring_at rings ring.id.0 ≡ Some table)
+pub ring_there : (rings : List RingTable) (ring : RingTable) → Has rings ring → (table : RingTable) × (ring_at rings ring.id.0 ≡ Some table)
 ring_there [] ring has = absurd has
 ring_there (r ∷ rings) ring has = go (r.id.0 == ring.id.0) refl has (λ h. ring_there rings ring h)
   where

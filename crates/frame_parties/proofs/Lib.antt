@@ -1,0 +1,12 @@
+pub mod Invariant
+pub mod Lists
+pub mod Words
+pub mod Rounds
+pub mod Handlers
+pub mod Recovering
+pub mod Going
+pub mod Deployed
+pub mod Stepping
+pub mod Clients
+pub mod Worlds
+pub mod Runs
