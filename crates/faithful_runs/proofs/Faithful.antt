@@ -6,9 +6,8 @@ use Rattle.mrp_config.specs.Config.{Config}
 use Rattle.mrp_config.specs.Valid.{IsValid}
 use Rattle.protocol.specs.Lines.{Line, Learn, Deliver, Saved, State, Answer, Chose, Restore, Trim, Begin, Refuse, Frame, End}
 use Rattle.bare_world.specs.Worlds.{Happening, nothing}
-use Rattle.line_rules.specs.Names.{Rule}
 use Rattle.line_rules.specs.Names as rule
-use Rattle.line_rules.specs.Rules.{F1, F2, F4, F5, F6, F7, F8, F9, NamesFit, Keeps, IsFaithfulLine, AreFaithful, IsFaithful}
+use Rattle.line_rules.specs.Rules.{F1, F2, F4, F5, F6, F7, F8, F9, NamesFit, IsFaithfulLine, AreFaithful, IsFaithful}
 use Rattle.line_rules.specs.Scanners.{past}
 use Rattle.quorums.specs.Groups.{Has}
 use Rattle.faithful.proofs.Growing.{past_more}
@@ -26,7 +25,7 @@ use Rattle.world_model.specs.Runs.{Scheduled, MayBeScheduled, run_of}
 use Rattle.world_model.specs.Trace.{trace}
 use Rattle.world_model.specs.Worlds.{started}
 use Rattle.world_model.proofs.Scheduled.{may_run, trace_is}
-use Rattle.disk_runs.specs.Runs.{AreListed, Fits, GoesOn, IsShown}
+use Rattle.disk_runs.specs.Runs.{AreListed, Fits, IsShown}
 use Rattle.disk_runs.proofs.Whole.{run_goes, scheduled_fit}
 use Rattle.disk_runs.proofs.Works.{all_work}
 use Rattle.faithful_runs.proofs.Learning.{learn_line}

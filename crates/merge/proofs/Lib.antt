@@ -3,4 +3,4 @@ mod Sized
 mod Skips
 mod Turns
 mod Settled
-mod Stepping
+pub mod Stepping

@@ -19,7 +19,7 @@ use Rattle.merge.specs.Steps.{Agree, stands_at}
 
 -- ---- of one ring's maps
 
-is_ring : (rings : List RingId) (maps : List (List (ℕ × Value))) (place : RingId × ℕ) (v : Value) → learned_at rings maps place ≡ Some v → has_ring rings place.0.0 ≡ true
+pub is_ring : (rings : List RingId) (maps : List (List (ℕ × Value))) (place : RingId × ℕ) (v : Value) → learned_at rings maps place ≡ Some v → has_ring rings place.0.0 ≡ true
 is_ring [] maps place v is = absurd (cc)
 is_ring (ring ∷ rings) [] place v is = absurd (cc)
 is_ring (ring ∷ rings) (map ∷ maps) place v is = by (ring.0 == place.0.0) is (λ h. is_ring rings maps place v h)

@@ -1,5 +1,7 @@
 //! The learners of a replica's rings, as its merge sees them.
-ghost use Rattle.std.specs.Prelude.{◌≡◌, ◌↔◌, IsTrue, Some};
+ghost use Rattle.std.specs.Prelude.{◌≡◌, ◌↔◌, IsTrue, Some, None, IsNone, IfSome};
+ghost use Rattle.range_map.specs.Entries.{value_at};
+ghost use Rattle.merge.specs.Looked.{IsRunOf};
 ghost use Rattle.mrp_types.specs.declared.value.Value.TheVariants.{Skip};
 ghost use Rattle.protocol.specs.Learner.{value_in};
 ghost use Rattle.protocol.specs.Parts.{Learner};
@@ -40,6 +42,18 @@ fn is_skip(learner: &RingLearner, i: Inst) -> bool
     matches!(learner.at(i), Some(Value::Skip))
 }
 
+/// The run round an instance of what a learner holds; `None` where it doesn't hold the instance.
+pub fn look_at(learner: &RingLearner, i: Inst) -> Option<Run>
+    ensures none { IsNone result ↔ (value_at i learner.now.held ≡ None) }
+    ensures run { IfSome result (λ run. IsRunOf learner.now.held i run) }
+{
+    let Some((_, end)) = learner.run_at(i) else {
+        return None;
+    };
+    let skip = is_skip(learner, i);
+    Some(Run { skip, end })
+}
+
 impl Runs for Learners<'_> {
     ghost maps = { λ l. maps_of l.learners.now };
 
@@ -47,11 +61,6 @@ impl Runs for Learners<'_> {
 
     fn look(&mut self, position: u8, i: Inst) -> Option<Run> {
         self.looks = self.looks.saturating_add(1);
-        let learner = &self.learners[usize::from(position)];
-        let Some((_, end)) = learner.run_at(i) else {
-            return None;
-        };
-        let skip = is_skip(learner, i);
-        Some(Run { skip, end })
+        look_at(&self.learners[usize::from(position)], i)
     }
 }

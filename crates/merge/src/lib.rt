@@ -12,7 +12,7 @@ mod merging;
 mod passing;
 
 pub use laws::{merges_are_one, the_step_delivers, the_step_passes_skips, the_step_waits};
-pub use learned::Learners;
+pub use learned::{Learners, look_at};
 pub use looks::{Run, Runs};
 pub use merging::Merge;
 pub use passing::Next;

@@ -120,6 +120,13 @@ impl ReplicaState {
         })
     }
 
+    /// The partition.
+    pub fn partition(&self) -> PartitionId
+        ensures { result ≡ self.now.partition.id }
+    {
+        self.partition.id
+    }
+
     /// Whether the command concerns the partition.
     pub fn is_concerned(&self, command: &Command) -> bool
         ensures { result ≡ is_concerned_lem command.now self.now.partition }

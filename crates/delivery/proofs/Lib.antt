@@ -1,0 +1,5 @@
+mod Taking
+mod Found
+mod Alike
+mod Counts
+mod Moves
