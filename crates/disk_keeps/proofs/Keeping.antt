@@ -62,7 +62,7 @@ may_keep (bare.Down durable pending) p (inl is) = inl (ap (λ (q : Possible). q.
 may_keep (bare.Down durable pending) p (inr is) = inr (ap (λ (q : Possible). q.state) is)
 
 -- the second of two parts of a run may happen after the first
-may_rest : (config : Config) (w : bare.World) (first second : List bare.Happening) → MayRun config w (first ++ second) → MayRun config (run config first w) second
+pub may_rest : (config : Config) (w : bare.World) (first second : List bare.Happening) → MayRun config w (first ++ second) → MayRun config (run config first w) second
 may_rest config w [] second may = may
 may_rest config w (h ∷ first) second may = may_rest config (bare.happens config h w) first second may.1
 
