@@ -1,0 +1,6 @@
+mod After
+mod Merging
+mod Recovering
+mod Learning
+mod Stepping
+mod Whole
