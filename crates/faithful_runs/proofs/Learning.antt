@@ -36,11 +36,11 @@ use Rattle.frame_parties.proofs.Deployed.{ring_members_there, valid_closed}
 -- a node that a list of nodes of the deployment has by its number
 found_there : (c : Config) (nodes : List NodeId) (n : ℕ) → AreThere c nodes → has_node nodes n ≡ true → (table : NodeTable) × (node_at c.nodes n ≡ Some table)
 found_there c [] n all h = absurd (true≢false (sym h))
-found_there c (node ∷ nodes) n all h = go (node.0 == n) refl h
+found_there c (node ∷ nodes) n all h = go (node.0 == n) refl h (λ is. found_there c nodes n all.1 is)
   where
-    go : (b : Bool) → (node.0 == n) ≡ b → (if b then true else has_node nodes n) ≡ true → (table : NodeTable) × (node_at c.nodes n ≡ Some table)
-    go true e is = subst (λ (k : ℕ). (table : NodeTable) × (node_at c.nodes k ≡ Some table)) (same_number node.0 n e) all.0
-    go false e is = found_there c nodes n all.1 is
+    go : (b : Bool) → (node.0 == n) ≡ b → (if b then true else has_node nodes n) ≡ true → (has_node nodes n ≡ true → (table : NodeTable) × (node_at c.nodes n ≡ Some table)) → (table : NodeTable) × (node_at c.nodes n ≡ Some table)
+    go true e is later = subst (λ (k : ℕ). (table : NodeTable) × (node_at c.nodes k ≡ Some table)) (same_number node.0 n e) all.0
+    go false e is later = later is
 
 module _ (c : Config) (valid : IsValid c) (node : NodeId) (ring : Ring) (of_ring : IsMemberOf c node ring) where
   member_there : HasNode c node

@@ -22,11 +22,11 @@ has_front (x ∷ xs) ys t (inr has) = inr (has_front xs ys t has)
 -- a list of lines without any of the order
 pub none_of_order : (P : Line → Type 0) → ((l : Line) → P l → is_of_order l ≡ false) → (ls : List Line) → AllByRecursion P ls → filter is_of_order ls ≡ []
 none_of_order P each [] all = refl
-none_of_order P each (l ∷ ls) all = go (is_of_order l) (each l all.0)
+none_of_order P each (l ∷ ls) all = go (is_of_order l) (each l all.0) (none_of_order P each ls all.1)
   where
-    go : (b : Bool) → b ≡ false → (if b then l ∷ filter is_of_order ls else filter is_of_order ls) ≡ []
-    go true e = absurd (cc)
-    go false e = none_of_order P each ls all.1
+    go : (b : Bool) → b ≡ false → filter is_of_order ls ≡ [] → (if b then l ∷ filter is_of_order ls else filter is_of_order ls) ≡ []
+    go true e later = absurd (cc)
+    go false e later = later
 
 module _ (c : Config) (id : NodeId) (p : PartitionTable) where
   -- ---- deeds after deeds

@@ -92,9 +92,8 @@ module _ (c : Config) (id : NodeId) (p : PartitionTable) where
 
     one_learned : (range : Decided) (later : List Decided) (o : Option RingPart) (a : StepSoFar) → part_at a.view ring.id ≡ o → Ground c id p before a
         → After c id p before (point_of a.view.service) a.lines (learns_one c ring range later o a).so_far
-    one_learned range later None a at g = stays c id p before a g
-
     unfolding learns
+    one_learned range later None a at g = stays c id p before a g
     one_learned range later (Some q) a at g = go (is_news range q.part.learner)
       where
         held : AllByRecursion (EntryLearned c id p (before ++ a.lines) ring.id) q.part.learner.held

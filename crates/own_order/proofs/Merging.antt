@@ -1,6 +1,6 @@
 -- The merge takes values that the node has learned, one after the other.
 use Rattle.std.proofs.Common.{◌≡◌, ℕ, zero, suc, ◌+◌, ◌^◌, Bool, true, false, List, [], ◌∷◌, ◌++◌, map, Option, Some, None, refl, sym, ◌∙◌, ap, subst, arith, append_assoc, append-nil}
-use Rattle.std.specs.Prelude.{filter, ◌==◌, nat_lt, if◌then◌else◌}
+use Rattle.std.specs.Prelude.{filter, nat_eq, ◌==◌, nat_lt, if◌then◌else◌}
 use Rattle.std.specs.List.{AllByRecursion}
 use Rattle.std.proofs.lemmas.Bool.Decides.{nat_tests}
 use Rattle.mrp_types.specs.declared.id.NodeId.{NodeId}
@@ -27,27 +27,28 @@ same_num i j e = grind (arith, nat_tests)
 
 entry_found : {T : Type 0} (P : ℕ × T → Type 0) (i : ℕ) (es : List (ℕ × T)) (v : T) → AllByRecursion P es → value_at i es ≡ Some v → P (i, v)
 entry_found P i [] v all e = absurd (cc)
-entry_found {T} P i (x ∷ es) v all e = go (i == x.0) refl e
+entry_found {T} P i (x ∷ es) v all e = go (nat_eq i x.0) refl e (λ f. entry_found P i es v all.1 f)
   where
-    go : (b : Bool) → (i == x.0) ≡ b → (if b then Some x.1 else value_at i es) ≡ Some v → P (i, v)
-    go true t f =
+    go : (b : Bool) → nat_eq i x.0 ≡ b → (if b then Some x.1 else value_at i es) ≡ Some v → (value_at i es ≡ Some v → P (i, v)) → P (i, v)
+    go true t f later =
         let same : x.1 ≡ v = cc in
         subst (λ (k : ℕ). P (k, v)) (sym (same_num i x.0 t)) (subst (λ (y : T). P (x.0, y)) same all.0)
-    go false t f = entry_found P i es v all.1 f
+    go false t f later = later f
 
 module _ (c : Config) (id : NodeId) (p : PartitionTable) where
   -- the part of a ring holds what was learned of this ring
   pub part_learned : (ls : List Line) (ring : RingId) (parts : List RingPart) (q : RingPart) → AllByRecursion (PartLearned c id p ls) parts → part_in parts ring ≡ Some q
       → AllByRecursion (EntryLearned c id p ls ring) q.part.learner.held
   part_learned ls ring [] q all e = absurd (cc)
-  part_learned ls ring (x ∷ parts) q all e = go (x.ring.id.0 == ring.0) refl e
+  part_learned ls ring (x ∷ parts) q all e = go (x.ring.id.0 == ring.0) refl e (λ f. part_learned ls ring parts q all.1 f)
     where
-      go : (b : Bool) → (x.ring.id.0 == ring.0) ≡ b → (if b then Some x else part_in parts ring) ≡ Some q → AllByRecursion (EntryLearned c id p ls ring) q.part.learner.held
-      go true t f =
+      go : (b : Bool) → (x.ring.id.0 == ring.0) ≡ b → (if b then Some x else part_in parts ring) ≡ Some q → (part_in parts ring ≡ Some q → AllByRecursion (EntryLearned c id p ls ring) q.part.learner.held)
+          → AllByRecursion (EntryLearned c id p ls ring) q.part.learner.held
+      go true t f later =
           let same : x ≡ q = cc in
           subst (λ (y : RingPart). AllByRecursion (EntryLearned c id p ls ring) y.part.learner.held) same
           (subst (λ (r : RingId). AllByRecursion (EntryLearned c id p ls r) x.part.learner.held) (by_number x.ring.id ring (same_num x.ring.id.0 ring.0 t)) all.0)
-      go false t f = part_learned ls ring parts q all.1 f
+      go false t f later = later f
 
   place_learned : (ls : List Line) (place : RingId × ℕ) (parts : List RingPart) (o : Option RingPart) (value : Value) → AllByRecursion (PartLearned c id p ls) parts → part_in parts place.0 ≡ o
       → value_of_part o place.1 ≡ Some value → IsLearned ls id place.0 place.1 value
