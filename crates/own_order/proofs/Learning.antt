@@ -1,11 +1,10 @@
 -- A rule of a ring prints nothing of the order; what it decides is learned, and then taken in turn.
 use Rattle.std.proofs.Common.{◌≡◌, ℕ, zero, suc, ◌^◌, ◌<◌, ◌≤◌, Bool, true, false, List, [], ◌∷◌, ◌++◌, Option, Some, None, inl, refl, sym, subst, arith, append_assoc}
-use Rattle.std.specs.Prelude.{◌==◌, filter, max, if◌then◌else◌}
+use Rattle.std.specs.Prelude.{◌==◌, max, if◌then◌else◌}
 use Rattle.std.specs.List.{AllByRecursion}
 use Rattle.std.proofs.lemmas.Bool.Decides.{nat_tests}
 use Rattle.mrp_types.specs.declared.id.NodeId.{NodeId}
 use Rattle.mrp_types.specs.declared.id.RingId.{RingId}
-use Rattle.mrp_types.specs.declared.value.Value.{Value}
 use Rattle.mrp_types.specs.declared.voted.Decided.{Decided}
 use Rattle.mrp_config.specs.Config.{Config}
 use Rattle.mrp_config.specs.declared.tables.PartitionTable.{PartitionTable}
@@ -18,12 +17,12 @@ use Rattle.protocol.specs.Learner.{first_of, is_news, learns, learns_news}
 use Rattle.protocol.specs.Learning.{Queued, applies_effects, by_news, learns_one, learns_up_to, proposes_then, queued, then_learns, with_effects}
 use Rattle.protocol.specs.Lines.{Line, BallotLimit, InstanceLimit, Learn, Trim}
 use Rattle.protocol.specs.Merging.{merges}
-use Rattle.protocol.specs.Node.{RingPart, StepSoFar, part_at, part_in, prints, with_part, with_part_in}
+use Rattle.protocol.specs.Node.{RingPart, StepSoFar, part_at, prints, with_part, with_part_in}
 use Rattle.protocol.specs.Parts.{Effects, Learner, Part, Ring}
 use Rattle.protocol.specs.Proposing.{proposes}
 use Rattle.quiet_rules.proofs.Words.{quiet_proposes}
 use Rattle.quiet_rules.specs.Quiet.{IsRingLine, Quiet}
-use Rattle.own_order.specs.Order.{IsLearned, Point, is_of_order, point_of}
+use Rattle.own_order.specs.Order.{IsLearned, is_of_order, point_of}
 use Rattle.own_order.proofs.After.{After, EntryLearned, Ground, PartLearned, after_both, after_plain, learned_more, none_of_order, prints_ground, stays}
 use Rattle.own_order.proofs.Merging.{merged, part_learned}
 

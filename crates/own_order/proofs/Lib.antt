@@ -4,3 +4,4 @@ mod Recovering
 mod Learning
 mod Stepping
 mod Whole
+mod Restored

@@ -1,7 +1,6 @@
 -- Restores, choices, attempts, and the frames and ticks of recovery.
-use Rattle.std.proofs.Common.{◌≡◌, ℕ, ◌+◌, ◌-◌, ◌^◌, Bool, true, false, List, [], ◌∷◌, ◌++◌, Option, Some, None, inl, inr, refl, sym, ◌∙◌, ap, subst}
+use Rattle.std.proofs.Common.{◌≡◌, ℕ, ◌+◌, ◌-◌, ◌^◌, Bool, List, [], ◌∷◌, ◌++◌, Option, Some, None, inl, inr, refl, sym, ◌∙◌, ap, subst}
 use Rattle.std.specs.Prelude.{◌==◌, nat_le, nat_lt, ◌&&◌, not, if◌then◌else◌, length, flat_map}
-use Rattle.std.specs.List.{AllByRecursion}
 use Rattle.mrp_types.specs.declared.id.NodeId.{NodeId}
 use Rattle.mrp_types.specs.declared.id.RingId.{RingId}
 use Rattle.mrp_types.specs.Moves.{first_tuple}
@@ -15,14 +14,13 @@ use Rattle.plain_model.specs.Tuples.{round_sizes, is_tuple_of, instances}
 use Rattle.step_valid.proofs.Listed.{all_mapped}
 use Rattle.protocol.specs.Lines.{Line, AttemptLimit, Begin, Chose, Refuse, Restore}
 use Rattle.protocol.specs.Merging.{merges, place_of}
-use Rattle.protocol.specs.Node.{Attempt, Choice, Ready, Recovering, RingPart, Service, Stage, StepSoFar, prints, sends_all, with_stage}
+use Rattle.protocol.specs.Node.{Attempt, Choice, Ready, Recovering, Service, Stage, StepSoFar, prints, sends_all, with_stage}
 use Rattle.protocol.specs.Recovery.{answered_by, asks_checkpoint, asks_missing, asks_part, begins, begins_next, best_of, chooses, chooses_best, chooses_if_quorum, ends_attempt, epoch_of, gathers, gone_for, installs_own, is_of, is_of_choice, lowers, others_of, own_tuple, part_for, recovery_ticks, restores, restores_or_begins, restores_read, takes_answer, takes_gone, takes_part, with_lowered, with_more}
 use Rattle.protocol.specs.Step.{after_trim, begins_if_waits_below, recovers_if_trimmed, waits_below}
-use Rattle.protocol.specs.Tick.{recovery_ticks_at}
 use Rattle.protocol.specs.Trimming.{has_answered}
 use Rattle.quiet_rules.proofs.Words.{by_test}
 use Rattle.own_order.specs.Order.{Begins, IsRead, Point, Restores, point_of, point_of_stage}
-use Rattle.own_order.proofs.After.{After, Ground, PartLearned, Serves, after_both, after_lines, after_plain, prints_ground, stage_after, stage_ground, stays}
+use Rattle.own_order.proofs.After.{After, Ground, PartLearned, Serves, after_lines, after_plain, prints_ground, stage_after, stage_ground, stays}
 use Rattle.own_order.proofs.Merging.{merged}
 
 module _ (c : Config) (id : NodeId) (p : PartitionTable) (before : List Line) where

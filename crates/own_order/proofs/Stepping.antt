@@ -1,12 +1,11 @@
 -- A frame, an order to lead and a tick.
-use Rattle.std.proofs.Common.{◌≡◌, ℕ, ◌+◌, ◌/◌, ◌%◌, Bool, true, false, List, [], ◌∷◌, Option, Some, None, refl, ◌∙◌, ap}
-use Rattle.std.specs.Prelude.{◌==◌, ◌&&◌, if◌then◌else◌, filter, flat_map}
+use Rattle.std.proofs.Common.{◌≡◌, ℕ, ◌/◌, ◌%◌, Bool, true, false, List, [], ◌∷◌, Option, Some, None, refl, ◌∙◌, ap}
+use Rattle.std.specs.Prelude.{◌==◌, ◌&&◌, if◌then◌else◌, flat_map}
 use Rattle.mrp_types.specs.declared.id.ClientId.{ClientId}
 use Rattle.mrp_types.specs.declared.id.NodeId.{NodeId}
 use Rattle.mrp_types.specs.declared.id.RingId.{RingId}
 use Rattle.mrp_types.specs.declared.voted.Voted.{Voted}
 use Rattle.mrp_config.specs.Config.{Config}
-use Rattle.mrp_config.specs.declared.tables.NodeTable.{NodeTable}
 use Rattle.mrp_config.specs.declared.tables.PartitionTable.{PartitionTable}
 use Rattle.command_codec.specs.Grammar.{command_of}
 use Rattle.frames.specs.declared.body.Body.{Body}
@@ -25,7 +24,7 @@ use Rattle.protocol.specs.Lines.{Line}
 use Rattle.protocol.specs.Merging.{place_of}
 use Rattle.protocol.specs.Node.{Attempt, Ready, Recovering, RingPart, Service, Stage, StepSoFar, View, part_at, part_in, sends_all}
 use Rattle.protocol.specs.Parts.{Effects, Part, Ring}
-use Rattle.protocol.specs.Recovery.{answer_part, answered_by, own_tuple, recovery_ticks, safe_of, takes_gone, takes_part, tells_checkpoint, tells_part}
+use Rattle.protocol.specs.Recovery.{answer_part, answered_by, own_tuple, safe_of, takes_gone, takes_part, tells_checkpoint, tells_part}
 use Rattle.protocol.specs.Rings.{is_acceptor, sends_to}
 use Rattle.protocol.specs.Step.{at_acceptor, at_attempt, at_member, at_service, handles_body, handles_submit, handles_trim, handles_trim_at, is_for, recovering, recovers_if_trimmed, tells_safe}
 use Rattle.protocol.specs.Tick.{asks_on_beat, beats_with, fetches_at, fetches_missing, fetches_stage, greets, recovery_ticks_at, rules_at, rules_for, ticks_ring, ticks_rings}

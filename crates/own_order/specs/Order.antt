@@ -15,7 +15,7 @@ use Rattle.plain_model.specs.StateBytes.{state_of}
 use Rattle.plain_model.specs.Tuples.{round_sizes, next_place, past, instances}
 use Rattle.protocol.specs.Lines.{Line, Begin, Deliver, Learn, Reply, Restore}
 use Rattle.protocol.specs.Merging.{reply_line}
-use Rattle.protocol.specs.Node.{Event, Recovering, Ready, Service, Stage, Stepped, View}
+use Rattle.protocol.specs.Node.{Event, Recovering, Ready, Service, Stage, View}
 use Rattle.protocol.specs.Opening.{opened}
 use Rattle.protocol.specs.Step.{step}
 
@@ -141,3 +141,37 @@ pub record KeepsOrder (c : Config) (id : NodeId) (p : PartitionTable) (l : Lived
   pub lines : filter is_of_order l.lines ≡ lines_by c id p None deeds
   pub point : point_of l.view.service ≡ point_by c p None deeds
   pub own : AreOwn c id p l.lines None deeds
+
+-- ---- after a restore
+
+-- neither a begin nor a restore line
+abbrev pub IsBetween : Line → Type 0
+IsBetween (Begin node epoch attempt printed) = ⊥
+IsBetween (Restore node printed) = ⊥
+IsBetween other = Unit {0}
+
+-- nothing more, or a begin or a restore line first
+abbrev pub IsEnd : List Line → Type 0
+IsEnd [] = Unit {0}
+IsEnd (Begin node epoch attempt printed ∷ after) = Unit {0}
+IsEnd (Restore node printed ∷ after) = Unit {0}
+IsEnd other = ⊥
+
+abbrev pub taking : List Value → List Deed
+taking values = map Takes values
+
+-- where it stands at the end, if nothing came after
+abbrev pub IsLeftAt : Config → PartitionTable → Point → List Value → Option Service → List Line → Type 0
+IsLeftAt c p from values service [] = point_of service ≡ point_by c p (Some from) (taking values)
+IsLeftAt c p from values service after = Unit {0}
+
+-- From a tuple and a state on, the deliver and reply lines are those of values that the node has learned, taken one after the other
+-- at the places from the tuple on.
+pub record FollowsOrder (c : Config) (id : NodeId) (p : PartitionTable) (l : Lived) (printed : List ℕ) (since after : List Line) : Type 0 where
+  pub from : Point
+  pub at : printed ≡ instances from.tuple
+  pub read : IsRead p from.tuple from.replica
+  pub values : List Value
+  pub lines : filter is_of_order since ≡ lines_by c id p (Some from) (taking values)
+  pub own : AreOwn c id p l.lines (Some from) (taking values)
+  pub left : IsLeftAt c p from values l.view.service after

@@ -1,10 +1,9 @@
 -- Each entry of a proposed value was asked.
-use Rattle.std.proofs.Common.{◌≡◌, ℕ, List, ◌∷◌, Option, Some, inl, inr, sym, subst}
+use Rattle.std.proofs.Common.{ℕ, List, inl, inr, sym, subst}
 use Rattle.std.specs.List.{AllByRecursion}
 use Rattle.mrp_types.specs.declared.id.NodeId.{NodeId}
 use Rattle.mrp_types.specs.declared.id.Party.{Party}
 use Rattle.mrp_types.specs.declared.id.Party.TheVariants.{Node}
-use Rattle.mrp_types.specs.declared.id.ClientId.{ClientId}
 use Rattle.mrp_types.specs.declared.value.Entry.{Entry}
 use Rattle.mrp_types.specs.declared.value.Value.{Value}
 use Rattle.mrp_config.specs.Config.{Config}
@@ -20,21 +19,19 @@ use Rattle.vote_state.specs.declared.change.Change.{Change}
 use Rattle.vote_state.specs.declared.change.Change.TheVariants as change
 use Rattle.vote_state.specs.State.{State, ring_at}
 use Rattle.step_valid.proofs.Batches.{all_at}
-use Rattle.protocol.specs.Lines.{Answer}
 use Rattle.protocol.specs.Node.{Work, Records, Nothing, Saves, Compacts}
 use Rattle.beside_rings.specs.Beside.{changes_in}
-use Rattle.bare_world.specs.Worlds.{Happening, Host, Up, Down, World, nothing}
-use Rattle.bare_world.specs.Runs.{run}
+use Rattle.bare_world.specs.Worlds.{Happening, Host, Up, Down, World}
 use Rattle.ask_laws.specs.Asks.{asked_in, IsAsked}
 use Rattle.ask_laws.specs.Carried.{ChangeCarries, HostCarries, PartyCarries, SentCarries, StateCarries, ValueCarries, WorkCarries, WorldCarries}
 use Rattle.ask_laws.proofs.Reading.{entries-asked}
 use Rattle.ask_laws.proofs.Told.{below-next}
 use Rattle.ask_laws.proofs.Worlds.{all_keep}
 use Rattle.mrp_config.specs.Valid.{IsValid}
-use Rattle.line_runs.specs.Laws.{IsRun, lines_of}
+use Rattle.line_runs.specs.Laws.{IsRun}
 use Rattle.answer_runs.proofs.Laws.{in_place}
 use Rattle.ring_runs.specs.Histories.{History, at_first, history}
-use Rattle.ring_runs.specs.Votes.{HasCast, HasSent, HasVoted, IsInAccept, IsOwners, IsProposed, MayHold, MayKeep}
+use Rattle.ring_runs.specs.Votes.{HasCast, HasSent, HasVoted, IsInAccept, IsProposed, MayHold, MayKeep}
 use Rattle.ring_runs.proofs.Whole.{world_of}
 use Rattle.safe_rules.specs.Rules.{AskRule, WasAsked}
 use Rattle.safe_rules.proofs.Done.{DoneCarries, OneCarries, done_carries}
@@ -95,5 +92,5 @@ module _ (c : Config) (hs : List Happening) (r : IsRun c hs) where
     proposed = λ table has ballot i value is. entries_were table ballot i value is;
     answered = λ client seq bytes has.
         let a = in_place c hs r client seq bytes has in
-        record { command = a.0; asked = a.1.0; place = a.1.1 };
+        record { command = a.0; asked = a.1; place = a.2 };
   }

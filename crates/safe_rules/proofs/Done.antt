@@ -1,5 +1,5 @@
 -- Whatever counts as done in a run carries entries that were asked alone; so does the work of each step that was stopped.
-use Rattle.std.proofs.Common.{◌≡◌, ℕ, ◌==◌, Bool, true, false, List, [], ◌∷◌, ◌++◌, Option, Some, None, if◌then◌else◌, refl, sym, subst, append_assoc}
+use Rattle.std.proofs.Common.{◌≡◌, ℕ, ◌==◌, ◌&&◌, Bool, true, false, List, [], ◌∷◌, ◌++◌, Option, Some, None, if◌then◌else◌}
 use Rattle.std.specs.List.{AllByRecursion}
 use Rattle.mrp_types.specs.declared.id.NodeId.{NodeId}
 use Rattle.mrp_types.specs.declared.value.Entry.{Entry}
@@ -9,19 +9,18 @@ use Rattle.vote_state.specs.State.{State}
 use Rattle.vote_journal.specs.Journal.{Journal}
 use Rattle.checkpoint.specs.Checkpoints.{Checkpoints}
 use Rattle.quorums.proofs.Each.{appended, mapped}
-use Rattle.protocol.specs.Lines.{Cause}
 use Rattle.protocol.specs.Node.{Event, Work, Nothing}
 use Rattle.protocol.specs.Opening.{opened}
 use Rattle.protocol.specs.Step.{step}
-use Rattle.bare_world.specs.Worlds.{Possible, Host, Up, Down, World, nothing, Happening, Steps, Breaks, Crashes, Opens, Fails, Asks, ClientTicks, ClientTakes, Shows, Lists, happens, steps_as, opens_as}
+use Rattle.bare_world.specs.Worlds.{Host, Up, Down, World, nothing, Happening, Steps, Breaks, Crashes, Opens, Fails, Asks, ClientTicks, ClientTakes, Shows, Lists, steps_as, opens_as}
 use Rattle.bare_world.specs.Runs.{MayHappen, MayRun}
-use Rattle.ask_laws.specs.Asks.{asked_with, asked_after, asked_in, or_else, takes, IsAsked}
+use Rattle.ask_laws.specs.Asks.{asked_with, asked_after, asked_in, takes, IsAsked}
 use Rattle.ask_laws.specs.Carried.{StateCarries, StepCarries, WorkCarries, WorldCarries}
 use Rattle.ask_laws.proofs.Clients.{asked_more, or_more}
 use Rattle.ask_laws.proofs.Hosts.{none_carries}
 use Rattle.ask_laws.proofs.More.{world_more}
 use Rattle.ask_laws.proofs.Stepping.{opened_carries}
-use Rattle.ask_laws.proofs.Worlds.{RunKeeps, happening_keeps, none_keeps}
+use Rattle.ask_laws.proofs.Worlds.{RunKeeps, all_keep, happening_keeps}
 use Rattle.ring_runs.specs.Histories.{History, at_first, is_done, is_stopped, found, noted, goes, by_step, by_break, by_crash, by_restart, by_opening, history}
 
 abbrev pub OneCarries : (ℕ → Entry → Type 0) → NodeId × Work → Type 0
@@ -130,4 +129,4 @@ done_on c h asked keeps all (x ∷ xs) may =
     done_on c (goes c x h) now (happening_keeps c asked h.world x may.0 keeps) (record { done = noted_now.done; stopped = noted_now.stopped }) xs may.1
 
 pub done_carries : (c : Config) (xs : List Happening) → MayRun c nothing xs → DoneCarries (IsAsked c (asked_in c xs)) (history c xs at_first)
-done_carries c xs may = done_on c at_first (λ k s. None) (none_keeps c) (record { done = tt; stopped = λ k. tt }) xs may
+done_carries c xs may = done_on c at_first (λ k s. None) (all_keep c [] tt) (record { done = tt; stopped = λ k. tt }) xs may

@@ -1,7 +1,6 @@
 -- The safe rules of partitions, of what is proved of lines, of states and of frames; all ten; and the same on disks.
 use Rattle.std.proofs.Common.{◌≡◌, ℕ, true, List, [], ◌∷◌, ◌++◌, refl, sym, subst}
 use Rattle.std.specs.List.{AllByRecursion}
-use Rattle.mrp_types.specs.declared.id.RingId.{RingId}
 use Rattle.mrp_config.specs.Config.{Config}
 use Rattle.mrp_config.specs.Valid.{IsValid}
 use Rattle.mrp_config.specs.declared.tables.PartitionTable.{PartitionTable}
@@ -12,7 +11,7 @@ use Rattle.quorums.specs.Groups.{Has}
 use Rattle.vote_state.specs.State.{trim_at}
 use Rattle.protocol.specs.Node.{Standing}
 use Rattle.bare_world.specs.Worlds.{Happening, World, happens, nothing}
-use Rattle.bare_world.specs.Runs.{MayRun, run}
+use Rattle.bare_world.specs.Runs.{MayRun}
 use Rattle.world_model.specs.Runs as disks
 use Rattle.line_runs.specs.Laws.{IsRun}
 use Rattle.line_runs.proofs.Holding.{covered_held}
